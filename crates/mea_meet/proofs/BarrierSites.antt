@@ -132,8 +132,6 @@ module _ (bs : Names BarrierEntry) (ws : Names BarrierWaitEntry) (next : ℕ) {o
   pub is_wait_is : (f : ℕ) → is_some (get ws f) ≡ is_wait old.hall f
   is_wait_is f = sym (is_some-map wait_seen (get ws f)) ∙ ap is_some (sym (get-seen (λ k y. wait_seen y) ws f)) ∙ ap (λ (p : Part Barriers). is_wait p.hall f) view
 
-  pub valid_is : AreKeptBarriers bs ws next → HasBarriers old.hall old.next
-  valid_is kept = subst (λ (p : Part Barriers). HasBarriers p.hall p.next) view kept.valid
 
 -- ---- the barriers before event number i
 pub record Site (old : Part Barriers) (i : ℕ) : Type 0 where
@@ -212,11 +210,11 @@ module _ {old : Part Barriers} {i : ℕ} (s : Site old i) where
   known_wait : (f : ℕ) (p : Option BarrierWaitEntry) → get s.ws f ≡ p → is_wait old.hall f ≡ is_some p
   known_wait f p is = sym (is_wait_is s.bs s.ws s.next s.view f) ∙ ap is_some is
 
-  pub no_barrier : (b : ℕ) → get s.bs b ≡ None → unknown_unless (is_barrier old.hall b) ≡ Some stops.Unknown
-  no_barrier b none = ap unknown_unless (known_barrier b None none)
+  pub barrier_unknown : (b : ℕ) → get s.bs b ≡ None → unknown_unless (is_barrier old.hall b) ≡ Some stops.Unknown
+  barrier_unknown b none = ap unknown_unless (known_barrier b None none)
 
-  pub no_wait : (f : ℕ) → get s.ws f ≡ None → unknown_unless (is_wait old.hall f) ≡ Some stops.Unknown
-  no_wait f none = ap unknown_unless (known_wait f None none)
+  pub wait_unknown : (f : ℕ) → get s.ws f ≡ None → unknown_unless (is_wait old.hall f) ≡ Some stops.Unknown
+  wait_unknown f none = ap unknown_unless (known_wait f None none)
 
   pub barrier_known : (b : ℕ) (e : BarrierEntry) → get s.bs b ≡ Some e → unknown_unless (is_barrier old.hall b) ≡ None
   barrier_known b e there = ap unknown_unless (known_barrier b (Some e) there)
@@ -443,12 +441,12 @@ module _ {old : Part Barriers} {i : ℕ} (s : Site old i) where
 
       -- where nothing changed
       pub unpolled : (d : BarrierEntry) (u : Wait) → d ≡ e → u ≡ x.wait → AreKeptBarriers (insert s.bs b d) (insert s.ws f (record x { wait = u })) s.next × (part_of (insert s.bs b d) (insert s.ws f (record x { wait = u })) s.next ≡ old)
-      unpolled d u first second = untold (insert s.bs b d) (insert s.ws f (record x { wait = u })) (ap (insert s.bs b) first ∙ insert_same s.bs b e there) (ap (λ u. insert s.ws f (record x { wait = u })) second ∙ insert_same s.ws f x future)
+      unpolled d u first second = rw (first, second, insert_same s.bs b e there, insert_same s.ws f x future) (s.kept, s.view)
 
   -- ---- a barrier is made
   pub made : (n : ℕ) (c : cores.Barrier NamedWaker) → c ≡ record { size = max n 1; arrivals = 0; waiting = record { wakers = []; drains = 0 }; wakes = [] } → (bs' : Names BarrierEntry) → bs' ≡ insert s.bs i (record { core = c; waits = 0 }) → Rests (Make n) answers.Made bs' s.ws
   made n c is bs' put =
-      let new : get s.bs i ≡ None = seen-none_back barrier_seen s.bs i no_such in
+      let new : get s.bs i ≡ None = seen-none_back barrier_seen s.bs i no_barrier in
       let nothing : weight (λ b (e : BarrierEntry). length e.core.waiting.wakers) i (get s.bs i) ≡ 0 = ap (weight (λ b (e : BarrierEntry). length e.core.waiting.wakers) i) new in
       let all = total-insert (λ b (e : BarrierEntry). length e.core.waiting.wakers) s.bs i (record { core = fresh; waits = 0 }) in
       rw (put, is) (rests_as (Make n) (model.make here i n) refl refl answers.Made refl (insert s.bs i (record { core = fresh; waits = 0 })) s.ws (seen-insert barrier_seen s.bs i (record { core = fresh; waits = 0 })) refl
@@ -459,15 +457,15 @@ module _ {old : Part Barriers} {i : ℕ} (s : Site old i) where
       fresh : cores.Barrier NamedWaker
       fresh = record { size = max n 1; arrivals = 0; waiting = record { wakers = []; drains = 0 }; wakes = [] }
 
-      no_such : get (seen barrier_seen s.bs) i ≡ None
-      no_such = at (get (seen barrier_seen s.bs) i) refl
+      no_barrier : get (seen barrier_seen s.bs) i ≡ None
+      no_barrier = at (get (seen barrier_seen s.bs) i) refl
         where
           at : (p : Option Barrier) → get (seen barrier_seen s.bs) i ≡ p → get (seen barrier_seen s.bs) i ≡ None
           at None is = is
           at (Some r) is = absurd (let low = (s.kept.valid.each i r is).below in let later = s.later in omega (arith, low, later))
 
       own_none : own of_barrier i s.ws ≡ empty
-      own_none = own-empty of_barrier i s.ws (λ f x is mine. absurd (let some = subst (λ b. IsSome (get (seen barrier_seen s.bs) b)) (sym mine) (s.kept.valid.waits.at f (wait_seen x) (seen-at wait_seen s.ws f x is)).1 in let none = ap is_some no_such in let no = sym none ∙ some in cc))
+      own_none = own-empty of_barrier i s.ws (λ f x is mine. absurd (let some = subst (λ b. IsSome (get (seen barrier_seen s.bs) b)) (sym mine) (s.kept.valid.waits.at f (wait_seen x) (seen-at wait_seen s.ws f x is)).1 in let none = ap is_some no_barrier in let no = sym none ∙ some in cc))
 
       new_kept_one : AreKept (record { core = fresh; waits = 0 }) empty (i + 1)
       new_kept_one = record {

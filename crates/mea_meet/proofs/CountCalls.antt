@@ -24,7 +24,7 @@ use Rattle.mea_sets.specs.WaitSet.{has_given}
 use Rattle.mea_meet_model.specs.Count.{Count, with_waker}
 use Rattle.mea_meet_model.specs.Counts as model
 use Rattle.mea_meet_model.specs.Counts.{Counts, Point, End, Holder, Awaited, Wait, New, is_holder, is_sender, is_wait, borrows, borrowers_of, registered, of_itself, tidied}
-use Rattle.mea_meet_model.specs.CountActions.{Action, Make, Begin, Join, Watch, Into, EndHolder, Copy, EndWait, CopySender, Await, EndSender, act_in, cause_in, end_by, leave_by, join_cause, overflow_at, is_counted}
+use Rattle.mea_meet_model.specs.CountActions.{Action, Begin, Join, Watch, Into, EndHolder, Copy, EndWait, EndEither, CopySender, Await, EndSender, act_in, cause_in, end_by, leave_by, join_cause, overflow_at, is_counted}
 use Rattle.mea_meet_model.specs.CountActions as actions
 use Rattle.mea_meet_model.specs.Valid.{HasCounts, BorrowNothing}
 use Rattle.mea_meet_model.proofs.CountsKept.{counts_later, no_holder}
@@ -37,7 +37,7 @@ use Rattle.mea_meet.specs.CountCores.{NamedPoint, arrived, joined, parted, hande
 use Rattle.mea_meet.specs.CountWaits.{end_of, slot_of, with_slot, borrowed_of, awaits_of}
 use Rattle.mea_meet.specs.CountEntries.{KeptPoint, Settles, Polled, is_full}
 use Rattle.mea_meet.specs.CountParts.{point_seen, holder_seen, wait_seen, counts_seen, of_holder, of_wait, borrowers_in, AreKept, AreKeptCounts, given_back_at, given_back}
-use Rattle.mea_meet.specs.Acts.{Acts, ActsQuietly}
+use Rattle.mea_family.specs.Acts.{Acts, ActsQuietly}
 use Rattle.mea_meet.specs.Halls.{CountActs, CountActsQuietly}
 use Rattle.mea_meet.proofs.CountSeeing as seeing
 use Rattle.mea_meet.proofs.CountSeeing.{kept_in}
@@ -61,12 +61,16 @@ pub not_full : (b : Bool) (n : ℕ) → (b && (n == 4294967295)) ≡ false → b
 not_full true n test is = eqb-false n 4294967295 test
 not_full false n test is = absurd (cc)
 
+-- where futures borrow no holder, none borrows this
+pub free_of_all : (h : Counts) → BorrowNothing h → (k f : ℕ) (y : Wait) → get h.waits f ≡ Some y → borrows y.awaits k ≡ false
+free_of_all h nothing k f y is = ap (λ a. borrows a k) (nothing f y is)
+
 module _ {old : Part Counts} {i : ℕ} (s : Site old i) where
   abbrev here : Counts
   here = counts_seen s.ps s.ss s.hs s.ws
 
   -- an action was done, and no waker was made ready; or some were
-  abbrev Rests : Action → Answer → Names KeptPoint → Names ℕ → Names HolderEntry → Names WaitEntry → Type 0
+  abbrev pub Rests : Action → Answer → Names KeptPoint → Names ℕ → Names HolderEntry → Names WaitEntry → Type 0
   Rests a answer ps ss hs ws = AreKeptCounts ps ss hs ws (i + 1) × (cause_in old.hall a ≡ None) × PartRests registered old i (act_in old.hall i a) answer (part_of ps ss hs ws (i + 1))
 
   abbrev Yields : Action → Answer → Names KeptPoint → Names ℕ → Names HolderEntry → Names WaitEntry → Waking ℕ → Waking ℕ → Type 0
@@ -86,23 +90,23 @@ module _ {old : Part Counts} {i : ℕ} (s : Site old i) where
       yields_by before after woken waiting = let it = yields_as s (λ h. act_in h i a) out is valid answer replied ps' ss' hs' ws' points senders holders waits each before after woken waiting in (it.0, allowed, it.1)
 
   -- ---- why it is refused, or is not
-  holder_known : (k : ℕ) (x : HolderEntry) → get s.hs k ≡ Some x → unknown_unless (is_holder old.hall k) ≡ None
+  pub holder_known : (k : ℕ) (x : HolderEntry) → get s.hs k ≡ Some x → unknown_unless (is_holder old.hall k) ≡ None
   holder_known k x holder = ap unknown_unless (known_holder s k (Some x) holder)
 
-  wait_known : (f : ℕ) (y : WaitEntry) → get s.ws f ≡ Some y → unknown_unless (is_wait old.hall f) ≡ None
+  pub wait_known : (f : ℕ) (y : WaitEntry) → get s.ws f ≡ Some y → unknown_unless (is_wait old.hall f) ≡ None
   wait_known f y future = ap unknown_unless (known_wait s f (Some y) future)
 
-  sender_known : (k o : ℕ) → get s.ss k ≡ Some o → unknown_unless (is_sender old.hall k) ≡ None
+  pub sender_known : (k o : ℕ) → get s.ss k ≡ Some o → unknown_unless (is_sender old.hall k) ≡ None
   sender_known k o sender = ap unknown_unless (known_sender s k (Some o) sender)
 
-  pub no_holder : (k : ℕ) → get s.hs k ≡ None → unknown_unless (is_holder old.hall k) ≡ Some stops.Unknown
-  no_holder k none = ap unknown_unless (known_holder s k None none)
+  pub holder_unknown : (k : ℕ) → get s.hs k ≡ None → unknown_unless (is_holder old.hall k) ≡ Some stops.Unknown
+  holder_unknown k none = ap unknown_unless (known_holder s k None none)
 
-  pub no_wait : (f : ℕ) → get s.ws f ≡ None → unknown_unless (is_wait old.hall f) ≡ Some stops.Unknown
-  no_wait f none = ap unknown_unless (known_wait s f None none)
+  pub wait_unknown : (f : ℕ) → get s.ws f ≡ None → unknown_unless (is_wait old.hall f) ≡ Some stops.Unknown
+  wait_unknown f none = ap unknown_unless (known_wait s f None none)
 
-  pub no_sender : (k : ℕ) → get s.ss k ≡ None → unknown_unless (is_sender old.hall k) ≡ Some stops.Unknown
-  no_sender k none = ap unknown_unless (known_sender s k None none)
+  pub sender_unknown : (k : ℕ) → get s.ss k ≡ None → unknown_unless (is_sender old.hall k) ≡ Some stops.Unknown
+  sender_unknown k none = ap unknown_unless (known_sender s k None none)
 
   -- what was lent and did not change
   pub untold : (ps' : Names KeptPoint) (ss' : Names ℕ) (hs' : Names HolderEntry) (ws' : Names WaitEntry) → ps' ≡ s.ps → ss' ≡ s.ss → hs' ≡ s.hs → ws' ≡ s.ws → AreKeptCounts ps' ss' hs' ws' s.next × (part_of ps' ss' hs' ws' s.next ≡ old)
@@ -382,8 +386,7 @@ module _ {old : Part Counts} {i : ℕ} (s : Site old i) where
 
     -- where nothing changed
     pub unpolled : (d : KeptPoint) (w : CountWait) → d ≡ e → w ≡ y.wait → AreKeptCounts (insert s.ps y.point d) s.ss s.hs (insert s.ws f (record y { wait = w })) s.next × (part_of (insert s.ps y.point d) s.ss s.hs (insert s.ws f (record y { wait = w })) s.next ≡ old)
-    unpolled d w first second = untold (insert s.ps y.point d) s.ss s.hs (insert s.ws f (record y { wait = w })) (ap (insert s.ps y.point) first ∙ insert_same s.ps y.point e there) refl refl
-        (ap (λ w. insert s.ws f (record y { wait = w })) second ∙ insert_same s.ws f y future)
+    unpolled d w first second = rw (first, second, insert_same s.ps y.point e there, insert_same s.ws f y future) (s.kept, s.view)
 
     ends_seen : (w : CountWait) → model.end_of (awaits_of w) ≡ end_of w
     ends_seen (waits.Signal slot borrowed) = refl

@@ -46,15 +46,15 @@ module _ {old : Part Counts} {i : ℕ} (s : Site old i) where
         (rw (own_no_wait s, own-put of_holder i s.hs i first refl, own_no_holder s) (new_kept new i things first refl (own of_itself i ss') all few)))
         refl (kept_made s (record { point = point_from new; things = things }) refl)
 
-    by_sends : (sends : Bool) → new.sends ≡ sends → Rests s (Make new) answers.Made (insert s.ps i (record { point = point_from new; things = 1 + cond sends 1 0 })) (if sends then insert s.ss i i else s.ss) (insert s.hs i first) s.ws
+    by_sends : (sends : Bool) → new.sends ≡ sends → Rests s (Make new) answers.Made (insert s.ps i (record { point = point_from new; things = if sends then 2 else 1 })) (if sends then insert s.ss i i else s.ss) (insert s.hs i first) s.ws
     by_sends true told = made_as true told (insert s.ss i i) (Comes i i (omega arith) refl (λ y is. absurd (let none = new_sender s in cc))) refl 2
         (let one : len (own of_itself i (insert s.ss i i)) ≡ len (insert (empty {X = ℕ} {R = nat_cmp}) i i) = ap len (own-put of_itself i s.ss i i refl) ∙ ap (λ (m : Names ℕ). len (insert m i i)) (own_no_sender s) in
         let two = len-new (empty {X = ℕ} {R = nat_cmp}) i i (get-empty nat_cmp i) in let none = len-empty nat_cmp ℕ in omega (arith, one, two, none)) (omega arith)
     by_sends false told = made_as false told s.ss Stays refl 1 (let none : len (own of_itself i s.ss) ≡ 0 = ap len (own_no_sender s) ∙ len-empty nat_cmp ℕ in omega (arith, none)) (omega arith)
 
-    pub made : (one : ℕ) → one ≡ cond new.sends 1 0 → (p : NamedPoint) → p ≡ point_from new → (ps' : Names KeptPoint) → ps' ≡ insert s.ps i (record { point = p; things = 1 + one }) → (ss' : Names ℕ) → ss' ≡ (if new.sends then insert s.ss i i else s.ss)
+    pub made : (p : NamedPoint) → p ≡ point_from new → (d : KeptPoint) → d ≡ record { point = p; things = if new.sends then 2 else 1 } → (ps' : Names KeptPoint) → ps' ≡ insert s.ps i d → (ss' : Names ℕ) → ss' ≡ (if new.sends then insert s.ss i i else s.ss)
         → (hs' : Names HolderEntry) → hs' ≡ insert s.hs i first → Rests s (Make new) answers.Made ps' ss' hs' s.ws
-    made one one_is p is ps' put ss' sends hs' comes = rw (put, is, one_is, sends, comes) (by_sends new.sends refl)
+    made p is d entry ps' put ss' sends hs' comes = rw (put, entry, is, sends, comes) (by_sends new.sends refl)
 
   -- where one could not be made
   pub no_holder_left : (x : HolderEntry) (between hs' : Names HolderEntry) → between ≡ insert s.hs i x → hs' ≡ remove between i → hs' ≡ s.hs

@@ -51,8 +51,6 @@ module _ (ps : Names KeptPoint) (ss : Names ℕ) (hs : Names HolderEntry) (ws : 
   pub point_is : (o : ℕ) (p : Option KeptPoint) → get ps o ≡ p → option_map point_seen p ≡ get old.hall.points o
   point_is o p is = ap (option_map point_seen) (sym is) ∙ sym (get-seen (λ k e. point_seen e) ps o) ∙ ap (λ (p : Part Counts). get p.hall.points o) view
 
-  pub valid_is : AreKeptCounts ps ss hs ws next → HasCounts old.hall old.next
-  valid_is kept = subst (λ (p : Part Counts). HasCounts p.hall p.next) view kept.valid
 
 -- what the points keep to, each with what is of it
 pub record Each (ps : Names KeptPoint) (ss : Names ℕ) (hs : Names HolderEntry) (ws : Names WaitEntry) (n : ℕ) : Type 0 where
@@ -147,12 +145,6 @@ module _ {old : Part Counts} {i : ℕ} (s : Site old i) where
   -- ---- what is there
   pub holder_there : (k : ℕ) → is_holder old.hall k ≡ true → IsSome (get s.hs k)
   holder_there k is = seen-some_back holder_seen s.hs k (in_view (λ h. is_holder h k ≡ true) is)
-
-  pub sender_there : (k : ℕ) → is_sender old.hall k ≡ true → IsSome (get s.ss k)
-  sender_there k is = in_view (λ h. is_sender h k ≡ true) is
-
-  pub wait_there : (f : ℕ) → is_wait old.hall f ≡ true → IsSome (get s.ws f)
-  wait_there f is = seen-some_back wait_seen s.ws f (in_view (λ h. is_wait h f ≡ true) is)
 
   pub point_there : (o : ℕ) → IsSome (get old.hall.points o) → IsSome (get s.ps o)
   point_there o some = seen-some_back point_seen s.ps o (in_view (λ h. IsSome (get h.points o)) some)

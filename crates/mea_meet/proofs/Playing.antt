@@ -14,7 +14,7 @@ use Rattle.mea_meet_model.specs.Hall.{Latches, Groups, Shutdowns, registered as 
 use Rattle.mea_meet_model.specs.Meaning.{Meaning, OnBarriers, OnCounts, meaning_of}
 use Rattle.mea_meet_model.specs.Step.{step, step_by}
 use Rattle.mea_meet_model.proofs.CountEvents.{not_borrowed, none_borrows}
-use Rattle.mea_meet.specs.Acts.{Refuses}
+use Rattle.mea_family.specs.Acts.{Refuses}
 use Rattle.mea_meet.specs.Halls.{hall_of, AreBelow, PlaysBy}
 
 -- ---- what is refused

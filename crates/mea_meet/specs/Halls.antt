@@ -14,7 +14,7 @@ use Rattle.mea_meet_model.specs.BarrierActions.{BarrierAction, End, Drop, cause_
 use Rattle.mea_meet_model.specs.Hall.{Hall, Latches, Groups, Shutdowns}
 use Rattle.mea_meet_model.specs.Meaning.{Meaning, OnBarriers, OnCounts, meaning_of}
 use Rattle.mea_meet_model.specs.Cause.{cause_by}
-use Rattle.mea_meet.specs.Acts.{Refuses, Acts, ActsQuietly}
+use Rattle.mea_family.specs.Acts.{Refuses, Acts, ActsQuietly}
 
 abbrev pub hall_of : Part Barriers → Part Counts → Part Counts → Part Counts → Hall
 hall_of b l g s = record { barriers = b.hall; latches = l.hall; groups = g.hall; shutdowns = s.hall }

@@ -1,5 +1,4 @@
 pub mod Actions
-pub mod Acts
 pub mod CountCores
 pub mod CountWaits
 pub mod CountEntries

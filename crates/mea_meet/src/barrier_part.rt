@@ -2,7 +2,6 @@ ghost use Rattle.std.specs.Prelude.{◌≡◌, ◌≢◌, ◌≤◌, IfSome, is_
 ghost use Rattle.mea_family.specs.Causes.{borrowed_by};
 ghost use Rattle.mea_meet_model.specs.Barriers.{no_barriers, is_barrier, is_wait, waits_of, registered};
 ghost use Rattle.mea_meet_model.specs.BarrierActions.{cause_at, Make, Begin, Poll as PollIt, End, Drop};
-ghost use Rattle.mea_meet_model.specs.Valid.{HasBarriers};
 ghost use Rattle.mea_meet.specs.Actions.{barrier_action};
 ghost use Rattle.mea_meet.specs.BarrierParts.{StandsForBarrier};
 ghost use Rattle.mea_meet.specs.Halls.{BarrierActs, BarrierActsQuietly};
@@ -52,13 +51,6 @@ impl BarrierPart {
             next: 0,
             alloc,
         }
-    }
-
-    /// What holds of the barriers after each event. It does nothing.
-    pub fn are_valid(&self)
-        ensures { HasBarriers self.now.hall self.now.next }
-    {
-        let _next = self.next;
     }
 
     /// The core of a barrier that is there. It takes no memory.

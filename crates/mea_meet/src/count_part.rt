@@ -1,14 +1,14 @@
-ghost use Rattle.std.specs.Prelude.{ℕ, ◌≡◌, ◌≢◌, ◌<◌, ◌≤◌, ◌==◌, cond, IfSome, IsSome, is_some, None, Some, Ok, true, false, OnErr, OnOk, if◌then◌else◌};
+ghost use Rattle.std.specs.Prelude.{ℕ, ◌≡◌, ◌≢◌, ◌<◌, ◌≤◌, ◌==◌, cond, IfSome, IsSome, is_some, None, Some, true, false, OnOk, OnErr, if◌then◌else◌};
 ghost use Rattle.std.specs.FinMap as map;
 ghost use Rattle.mea_family.specs.Causes.{borrowed_by};
 ghost use Rattle.mea_family.specs.Forms.{is_plain};
 ghost use Rattle.mea_family.specs.Play.{PartYields};
 ghost use Rattle.mea_meet_model.specs.Counts as counts;
 ghost use Rattle.mea_meet_model.specs.Counts.{Point, Wait, no_counts, is_holder, is_sender, is_wait, borrowers_of, borrows, registered};
-ghost use Rattle.mea_meet_model.specs.CountActions.{is_counted, join_cause, overflow_at, leave_by, cause_in, Make, Number, Try, Now, Arrive, Begin, Join, Watch, Into, EndHolder, Copy, Poll as PollIt, EndWait, EndEither, CopySender, Send, Await, EndSender};
-ghost use Rattle.mea_meet_model.specs.Valid.{HasCounts, BorrowNothing};
+ghost use Rattle.mea_meet_model.specs.CountActions.{is_counted, join_cause, overflow_at, leave_by, Make, Number, Try, Now, Arrive, Begin, Join, Watch, Into, EndHolder, Copy, Poll as PollIt, EndWait, EndEither, CopySender, Send, Await, EndSender};
+ghost use Rattle.mea_meet_model.specs.Valid.{BorrowNothing};
 ghost use Rattle.mea_meet.specs.Actions.{new_seen, count_action, takes_many, lends, IsNewOf, FitsKind};
-ghost use Rattle.mea_meet.specs.Acts.{ActsQuietly};
+ghost use Rattle.mea_family.specs.Acts.{ActsQuietly};
 ghost use Rattle.mea_meet.specs.CountParts.{given_back};
 ghost use Rattle.mea_meet.specs.CountLends.{StandsFor};
 ghost use Rattle.mea_meet.specs.Halls.{CountActs, CountActsQuietly};
@@ -87,13 +87,6 @@ impl<C: CountCore> CountPart<C> {
             next: 0,
             alloc,
         }
-    }
-
-    /// What holds of the points after each event. It does nothing.
-    pub fn are_valid(&self)
-        ensures { HasCounts self.now.hall self.now.next }
-    {
-        let _next = self.next;
     }
 
     /// The core of a point that is there. It takes no memory.
@@ -226,7 +219,7 @@ impl<C: CountCore> CountPart<C> {
             let _ = self.holders.remove(number);
             return Err(Stop::NoMemory);
         };
-        let entry = PointEntry::new(C::make(self.alloc, new), 1 + one_if(new.sends));
+        let entry = PointEntry::new(C::make(self.alloc, new), new.sends);
         let Ok(()) = self.points.insert(number, entry) else {
             let _ = self.holders.remove(number);
             self.senders.remove_if(number, new.sends);

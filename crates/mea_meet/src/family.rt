@@ -37,7 +37,7 @@ pub type MeetHall = FamilyHall<MeetFamily, MeetModel>;
 /// of the event that made it. One number may name things of different kinds.
 ///
 /// Each object is a core of its own; a future keeps its wait. Its waker carries the future's name, so the core's set
-/// tells who waits. Each event costs a look-up by name and the wakers that it makes ready.
+/// tells who waits. Each event costs a few look-ups by name and the wakers that it makes ready.
 #[derive(Drop)]
 pub struct MeetFamily {
     kinds: Kinds,

@@ -7,22 +7,6 @@ use crate::new_point::NewPoint;
 use mea_events::MeetEvent;
 use mea_family::Form;
 
-// A group has its members, of which the first handle is one.
-const NEW_GROUP: NewPoint = NewPoint {
-    signal: 0,
-    members: 1,
-    counted: true,
-    sends: false,
-};
-
-// A shutdown has a sender and a receiver, and a signal that is not set.
-const NEW_SHUTDOWN: NewPoint = NewPoint {
-    signal: 1,
-    members: 1,
-    counted: true,
-    sends: true,
-};
-
 /// What a line does, and to meeting points of which kind.
 #[derive(Clone, Copy)]
 pub enum Meaning {
@@ -40,18 +24,6 @@ pub enum Meaning {
     Shutdowns(CountAction),
 }
 
-// A latch has its signal's count and one holder, which is its name.
-fn new_latch(n: u32) -> NewPoint
-    ensures { result ≡ record { signal = n; members = 0; counted = false; sends = false } }
-{
-    NewPoint {
-        signal: n,
-        members: 0,
-        counted: false,
-        sends: false,
-    }
-}
-
 /// What this line does. It takes no memory.
 pub fn meaning_of(event: &MeetEvent) -> Meaning
     ensures means { meant result ≡ meaning_of event.now }
@@ -63,7 +35,7 @@ pub fn meaning_of(event: &MeetEvent) -> Meaning
         MeetEvent::BarPoll(f, waker) => Meaning::Barriers(BarrierAction::Poll(f, waker)),
         MeetEvent::BarEnd(f) => Meaning::Barriers(BarrierAction::End(f)),
         MeetEvent::BarDrop(b) => Meaning::Barriers(BarrierAction::Drop(b)),
-        MeetEvent::LatNew(n) => Meaning::Latches(CountAction::Make(new_latch(n))),
+        MeetEvent::LatNew(n) => Meaning::Latches(CountAction::Make(NewPoint::latch(n))),
         MeetEvent::LatCount(l) => Meaning::Numbers(l),
         MeetEvent::LatDown(l) => Meaning::Latches(CountAction::Arrive(l, 1)),
         MeetEvent::LatArrive(l, n) => Meaning::Latches(CountAction::Arrive(l, n)),
@@ -73,13 +45,13 @@ pub fn meaning_of(event: &MeetEvent) -> Meaning
         MeetEvent::LatPoll(f, waker) => Meaning::Latches(CountAction::Poll(f, waker)),
         MeetEvent::LatEnd(f) => Meaning::Latches(CountAction::EndWait(f)),
         MeetEvent::LatDrop(l) => Meaning::Latches(CountAction::EndHolder(l)),
-        MeetEvent::WgNew => Meaning::Groups(CountAction::Make(NEW_GROUP)),
+        MeetEvent::WgNew => Meaning::Groups(CountAction::Make(NewPoint::group())),
         MeetEvent::WgClone(k) => Meaning::Groups(CountAction::Join(k)),
         MeetEvent::WgInto(k) => Meaning::Groups(CountAction::Into(k)),
         MeetEvent::WgCopy(f) => Meaning::Groups(CountAction::Copy(f)),
         MeetEvent::WgPoll(f, waker) => Meaning::Groups(CountAction::Poll(f, waker)),
         MeetEvent::WgEnd(x) => Meaning::Groups(CountAction::EndEither(x)),
-        MeetEvent::SdNew => Meaning::Shutdowns(CountAction::Make(NEW_SHUTDOWN)),
+        MeetEvent::SdNew => Meaning::Shutdowns(CountAction::Make(NewPoint::shutdown())),
         MeetEvent::SdCopys(k) => Meaning::Shutdowns(CountAction::CopySender(k)),
         MeetEvent::SdCopyr(k) => Meaning::Shutdowns(CountAction::Join(k)),
         MeetEvent::SdSignal(k) => Meaning::Shutdowns(CountAction::Send(k)),

@@ -31,11 +31,14 @@ impl<C: CountCore> Model for PointEntry<C> {
 impl<C: CountCore> PointEntry<C> {
     ghost use Rattle.mea_meet.specs.CountEntries.{is_full, Settles, Polled, Turns};
 
-    /// A point of a new core, with so many things.
-    pub fn new(core: C, things: u128) -> Self
-        ensures { result ≡ record { point = C.point_of core; things = things } }
+    /// A point of a new core, with its first holder, and a sender or none.
+    pub fn new(core: C, sends: bool) -> Self
+        ensures { result ≡ record { point = C.point_of core; things = if sends then 2 else 1 } }
     {
-        PointEntry { core, things }
+        PointEntry {
+            core,
+            things: if sends { 2 } else { 1 },
+        }
     }
 
     pub fn core(&self) -> &C

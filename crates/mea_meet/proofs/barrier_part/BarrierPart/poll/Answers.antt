@@ -2,12 +2,12 @@ use Rattle.std.proofs.Common.{refl, sym, ap, ◌∙◌, arith}
 use Rattle.std.specs.Option.{option_copied_mut}
 use Rattle.mea_base.proofs.Maps.{get-there, is_there}
 use Rattle.mea_by_name.proofs.Own.{put_gone}
-use Rattle.mea_meet.proofs.BarrierSites.{site, no_wait, wait_known, waits_barrier, some_waits, its_quiet, its_few, its_room, opened, unpolled, pends, readies}
+use Rattle.mea_meet.proofs.BarrierSites.{site, wait_unknown, wait_known, waits_barrier, some_waits, its_quiet, its_few, its_room, opened, unpolled, pends, readies}
 use Rattle.mea_meet.proofs.Playing.{unknown, lacking}
 use Rattle.mea_meet.proofs.barrier_part.BarrierPart.poll.Goals as goal
 
 pub returns-in_default : goal.returns-in_default
-returns-in_default c = (unknown _ _ (no_wait (site c.self.inside.barriers c.self.inside.waits c.self.inside.next c.self.view_is c.self.invariant c.requires.next) c.args.f (sym c.get_mut.ensures.value ∙ ap option_copied_mut c.in_default.is)), c.self.view_is, refl)
+returns-in_default c = (unknown _ _ (wait_unknown (site c.self.inside.barriers c.self.inside.waits c.self.inside.next c.self.view_is c.self.invariant c.requires.next) c.args.f (sym c.get_mut.ensures.value ∙ ap option_copied_mut c.in_default.is)), c.self.view_is, refl)
 
 pub at_mut-entry-requires : goal.at_mut-entry-requires
 at_mut-entry-requires c = waits_barrier (site c.self.inside.barriers c.self.inside.waits c.self.inside.next c.self.view_is c.self.invariant c.requires.next) c.args.f c.in-Some.future.now (sym c.get_mut.ensures.value ∙ ap option_copied_mut c.in-Some.is)
