@@ -5,7 +5,7 @@ ghost use Rattle.mea_family.specs.Forms.{is_plain};
 ghost use Rattle.mea_family.specs.Play.{PartYields};
 ghost use Rattle.mea_meet_model.specs.Counts as counts;
 ghost use Rattle.mea_meet_model.specs.Counts.{Point, Wait, no_counts, is_holder, is_sender, is_wait, borrowers_of, borrows, registered};
-ghost use Rattle.mea_meet_model.specs.CountActions.{is_counted, join_cause, overflow_at, leave_by, Make, Number, Try, Now, Arrive, Begin, Join, Watch, Into, EndHolder, Copy, Poll as PollIt, EndWait, EndEither, CopySender, Send, Await, EndSender};
+ghost use Rattle.mea_meet_model.specs.CountActions.{is_counted, join_cause, overflow_at, leave_by, cause_in, Make, Number, Try, Now, Arrive, Begin, Join, Watch, Into, EndHolder, Copy, Poll as PollIt, EndWait, EndEither, CopySender, Send, Await, EndSender};
 ghost use Rattle.mea_meet_model.specs.Valid.{BorrowNothing};
 ghost use Rattle.mea_meet.specs.Actions.{new_seen, count_action, takes_many, lends, IsNewOf, FitsKind};
 ghost use Rattle.mea_family.specs.Acts.{ActsQuietly};
