@@ -7,6 +7,7 @@ use Rattle.mea_base.specs.Totals.{total}
 use Rattle.mea_base.proofs.Totals.{total-same}
 use Rattle.mea_by_name.specs.declared.named_waker.NamedWaker.{NamedWaker}
 use Rattle.mea_by_name.specs.ByName.{Names, seen}
+use Rattle.mea_by_name.specs.NamedQueue.{wakers}
 use Rattle.mea_by_name.proofs.Own.{total-seen}
 use Rattle.mea_cores_by_name.specs.SetLinked.{set_names}
 use Rattle.mea_cores_by_name.proofs.Sets.{length-names, wakers-names}

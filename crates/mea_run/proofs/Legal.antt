@@ -18,8 +18,7 @@ use Rattle.mea_events.specs.declared.event.Event.{Event}
 use Rattle.mea_events.specs.declared.event.Event.TheVariants.{Sem}
 use Rattle.mea_hall.specs.World.{World, empty_world, cause_of, step}
 use Rattle.mea_hall.specs.Front.{Front, front_at, front_from, front_of, prepended, IsLegal}
-use Rattle.mea_sem_model.specs.Waiters.{registers}
-use Rattle.mea_run.specs.Generated.{drawn_by, draw, round, round_of, rounds_from, first_state, script_of, PollsWait, IsBetweenRounds, begun_by, pendings}
+use Rattle.mea_run.specs.Generated.{drawn_by, draw, round, round_of, rounds_from, first_state, script_of, PollsWait, IsBetweenRounds, begun_by, is_semaphore_poll, pendings}
 use Rattle.mea_run.proofs.Rounds.{AllPlay, after, played, allowed, round_between, round_valid, round_below, round_plays}
 
 -- ---- events of semaphores in the world
@@ -51,19 +50,19 @@ polls_after h i (e ∷ es) fs rs plays wait = (plays.1, polls_after (played h i 
 
 -- how many of them are polls
 abbrev polls_in : List SemEvent → ℕ
-polls_in es = sum_by {X = SemEvent} (λ e. if registers e then 1 else 0) es
+polls_in es = sum_by {X = SemEvent} (λ e. if is_semaphore_poll e then 1 else 0) es
 
 -- as many replies are `pending`
 pending_told : (h : sem.Hall) (i : ℕ) (es : List SemEvent) → AllPlay h i es → pendings (told_of h i es) ≡ polls_in es
 pending_told h i [] plays = refl
 pending_told h i (e ∷ es) plays =
-    let here : ◌≡◌ {A = ℕ} (if is_pending (played h i e).reply then 1 else 0) (if registers e then 1 else 0) = ap (λ b. if b then 1 else 0)
+    let here : ◌≡◌ {A = ℕ} (if is_pending (played h i e).reply then 1 else 0) (if is_semaphore_poll e then 1 else 0) = ap (λ b. if b then 1 else 0)
     plays.2 in
     omega (
       arith,
       here,
       pending_told (played h i e).hall (i + 1) es plays.3,
-      sum_by-cons {X = SemEvent} (λ d. if registers d then 1 else 0) e es,
+      sum_by-cons {X = SemEvent} (λ d. if is_semaphore_poll d then 1 else 0) e es,
       sum_by-cons {X = Answer
           × List ℕ} (λ r. if is_pending r.0 then 1 else 0) ((played h i e).reply, (played h i e).wakes)
           (told_of (played h i e).hall (i + 1) es),

@@ -26,8 +26,7 @@ use Rattle.mea_sem_model.proofs.Events.{line}
 use Rattle.mea_sem_model.proofs.Keeps.{keeps_below}
 use Rattle.mea_sem_model.proofs.StaysValid.{rises, kept_valid}
 use Rattle.mea_sem_model.proofs.Granting.{Granting, grants}
-use Rattle.mea_sem_model.specs.Waiters.{registers}
-use Rattle.mea_run.specs.Generated.{IsBetweenRounds}
+use Rattle.mea_run.specs.Generated.{is_semaphore_poll, IsBetweenRounds}
 
 -- what an event makes of a hall, of which nothing is computed: nine of them in a row are nine names, and no term that grows
 unfoldable pub played : Hall → ℕ → SemEvent → Outcome
@@ -282,8 +281,8 @@ module _ (h : Hall) (i n : ℕ) where
 -- all these events are played, and each poll among them replies `pending`
 abbrev pub AllPlay : Hall → ℕ → List SemEvent → Type 0
 AllPlay h i [] = Unit {0}
-AllPlay h i (e ∷ es) = (cause_of h e ≡ None) × (registers e ≡ true → (played h i e).reply ≡ answers.Pending)
-    × (is_pending (played h i e).reply ≡ registers e)
+AllPlay h i (e ∷ es) = (cause_of h e ≡ None) × (is_semaphore_poll e ≡ true → (played h i e).reply ≡ answers.Pending)
+    × (is_pending (played h i e).reply ≡ is_semaphore_poll e)
     × AllPlay (played h i e).hall (i + 1) es
 
 -- the hall after these events
@@ -292,7 +291,7 @@ after h i [] = h
 after h i (e ∷ es) = after (played h i e).hall (i + 1) es
 
 -- no poll
-still : (e : SemEvent) → registers e ≡ false → (h : Hall) (i : ℕ) → registers e ≡ true → (played h i e).reply ≡ answers.Pending
+still : (e : SemEvent) → is_semaphore_poll e ≡ false → (h : Hall) (i : ℕ) → is_semaphore_poll e ≡ true → (played h i e).reply ≡ answers.Pending
 still e not_poll h i poll = absurd (cc)
 
 -- between two rounds nothing is live

@@ -7,7 +7,6 @@ use Rattle.mea_family.specs.declared.answer.Answer.TheVariants as answers
 use Rattle.mea_family.specs.Family.{is_pending}
 use Rattle.mea_events.specs.declared.sem_event.SemEvent.{SemEvent}
 use Rattle.mea_events.specs.declared.sem_event.SemEvent.TheVariants as events
-use Rattle.mea_sem_model.specs.Waiters.{registers}
 use Rattle.mea_sem_model.specs.Hall as sem
 use Rattle.mea_sem_model.specs.Cause.{is_named}
 use Rattle.mea_events.specs.declared.event.Event.{Event}
@@ -61,9 +60,13 @@ script_of seed rounds = Sem (events.New 0) ∷ (rounds_from (first_state seed) 0
 
 -- ---- what a script gives
 
+abbrev pub is_semaphore_poll : SemEvent → Bool
+is_semaphore_poll (events.Poll f w) = true
+is_semaphore_poll _ = false
+
 -- whether this is a poll; generated scripts have those of semaphores alone
 abbrev pub is_poll : Event → Bool
-is_poll (Sem e) = registers e
+is_poll (Sem e) = is_semaphore_poll e
 is_poll (Meet e) = false
 is_poll (Lock e) = false
 is_poll (Chan e) = false

@@ -13,7 +13,7 @@ use mea_hall::{grants_follow_first_polls, no_wake_is_lost, permits_balance};
 use mea_io::{Sink, Source};
 use mea_lines::long_lines_are_no_events;
 use mea_script::{Status, play_script, write_last};
-use mea_text::{Numbers, command_numbers, numbers_of_command};
+use mea_text::numbers_of_command;
 use std::alloc::Global;
 
 /// The most rounds of a generated script.
@@ -81,8 +81,8 @@ pub fn run<S: Source, K: Sink>(
 fn is_play(words: &[String]) -> bool
     ensures { IsTrue result ↔ IsPlay (map string_bytes words.now) }
 {
-    match command_numbers(b"play", words) {
-        Some(Numbers::Bare) => true,
+    match words {
+        [word] => word.as_str() == "play",
         _ => false,
     }
 }

@@ -7,7 +7,6 @@ ghost use Rattle.mea_script_tests.specs.Doors.{IsDoors, doors_of};
 use crate::doors::Doors;
 use mea_io::{Sink, Source};
 use mea_script::{Status, play_script};
-use mea_text::{Numbers, command_numbers};
 use std::alloc::Global;
 
 /// Plays a script of doors, with the word `doors`, and writes its text.
@@ -46,8 +45,8 @@ pub fn run_doors<S: Source, K: Sink>(
 fn is_doors(words: &[String]) -> bool
     ensures { IsTrue result ↔ IsDoors (map string_bytes words.now) }
 {
-    match command_numbers(b"doors", words) {
-        Some(Numbers::Bare) => true,
+    match words {
+        [word] => word.as_str() == "doors",
         _ => false,
     }
 }

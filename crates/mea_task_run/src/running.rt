@@ -9,7 +9,6 @@ ghost use Rattle.mea_task_run.specs.Words.{IsTasks};
 use crate::program::TaskProgram;
 use mea_io::{Sink, Source};
 use mea_script::{Status, play_script};
-use mea_text::{Numbers, command_numbers};
 use std::alloc::Global;
 
 /// Runs a program of tasks, with the word `tasks`, and writes what has become of it.
@@ -56,8 +55,8 @@ pub fn run_tasks<S: Source, K: Sink>(
 fn is_tasks(words: &[String]) -> bool
     ensures { IsTrue result ↔ IsTasks (map string_bytes words.now) }
 {
-    match command_numbers(b"tasks", words) {
-        Some(Numbers::Bare) => true,
+    match words {
+        [word] => word.as_str() == "tasks",
         _ => false,
     }
 }
