@@ -132,7 +132,6 @@ module _ (bs : Names BarrierEntry) (ws : Names BarrierWaitEntry) (next : ℕ) {o
   pub is_wait_is : (f : ℕ) → is_some (get ws f) ≡ is_wait old.hall f
   is_wait_is f = sym (is_some-map wait_seen (get ws f)) ∙ ap is_some (sym (get-seen (λ k y. wait_seen y) ws f)) ∙ ap (λ (p : Part Barriers). is_wait p.hall f) view
 
-
 -- ---- the barriers before event number i
 pub record Site (old : Part Barriers) (i : ℕ) : Type 0 where
   pub bs : Names BarrierEntry
@@ -159,10 +158,10 @@ module _ {old : Part Barriers} {i : ℕ} (s : Site old i) where
   in_view P is = subst (λ (p : Part Barriers). P p.hall) (sym s.view) is
 
   abbrev Rests : BarrierAction → Answer → Names BarrierEntry → Names BarrierWaitEntry → Type 0
-  Rests a answer bs ws = AreKeptBarriers bs ws (i + 1) × (cause_at old.hall a ≡ None) × PartRests registered old i (act_at old.hall i a) answer (part_of bs ws (i + 1))
+  Rests a answer bs ws = AreKeptBarriers bs ws (i + 1) × ((cause_at old.hall a ≡ None) × PartRests registered old i (act_at old.hall i a) answer (part_of bs ws (i + 1)))
 
   abbrev Yields : BarrierAction → Answer → Names BarrierEntry → Names BarrierWaitEntry → Waking ℕ → Waking ℕ → Type 0
-  Yields a answer bs ws before after = AreKeptBarriers bs ws (i + 1) × (cause_at old.hall a ≡ None) × PartYields registered old i (act_at old.hall i a) answer (part_of bs ws (i + 1)) before after
+  Yields a answer bs ws before after = AreKeptBarriers bs ws (i + 1) × ((cause_at old.hall a ≡ None) × PartYields registered old i (act_at old.hall i a) answer (part_of bs ws (i + 1)) before after)
 
   -- ---- the new maps stand for what the event leaves
   module _ (a : BarrierAction) (out : Outcome Barriers) (is : act_at here i a ≡ out) (allowed : cause_at old.hall a ≡ None) (answer : Answer) (replied : answer ≡ out.reply) (bs' : Names BarrierEntry) (ws' : Names BarrierWaitEntry)
@@ -182,15 +181,13 @@ module _ {old : Part Barriers} {i : ℕ} (s : Site old i) where
     rests_as : out.wakes ≡ [] → kept_in bs' ≡ kept_in s.bs → Rests a answer bs' ws'
     rests_as silent waiting = (
       keeps_as,
-      allowed,
-      subst (λ p. PartRests registered p i (act_at p.hall i a) answer (part_of bs' ws' (i + 1))) s.view (rw is (record { replied = replied; moved = λ j. record { hall = same j; next = i + 1 }; silent = silent; counted = after_is ∙ waiting ∙ sym before_is })),
+      (allowed, subst (λ p. PartRests registered p i (act_at p.hall i a) answer (part_of bs' ws' (i + 1))) s.view (rw is (record { replied = replied; moved = λ j. record { hall = same j; next = i + 1 }; silent = silent; counted = after_is ∙ waiting ∙ sym before_is }))),
     )
 
     yields_as : (before after : Waking ℕ) → after.wakers ≡ before.wakers ++ out.wakes → after.registered + kept_in s.bs ≡ before.registered + kept_in bs' → Yields a answer bs' ws' before after
     yields_as before after woken waiting = (
       keeps_as,
-      allowed,
-      subst (λ p. PartYields registered p i (act_at p.hall i a) answer (part_of bs' ws' (i + 1)) before after) s.view (rw is (record { replied = replied; moved = λ j. record { hall = same j; next = i + 1 }; woken = woken; counted = omega (arith, waiting, before_is, after_is) })),
+      (allowed, subst (λ p. PartYields registered p i (act_at p.hall i a) answer (part_of bs' ws' (i + 1)) before after) s.view (rw is (record { replied = replied; moved = λ j. record { hall = same j; next = i + 1 }; woken = woken; counted = omega (arith, waiting, before_is, after_is) }))),
     )
 
   -- ---- what is there

@@ -65,16 +65,24 @@ not_full false n test is = absurd (cc)
 pub free_of_all : (h : Counts) → BorrowNothing h → (k f : ℕ) (y : Wait) → get h.waits f ≡ Some y → borrows y.awaits k ≡ false
 free_of_all h nothing k f y is = ap (λ a. borrows a k) (nothing f y is)
 
+-- the end of a holder, or else of a future
+module _ (old : Part Counts) (i : ℕ) where
+  pub either_holder : (x : ℕ) → is_holder old.hall x ≡ true → (answer : Answer) (new : Part Counts) (before after : Waking ℕ) → PartYields registered old i (leave_by old.hall x) answer new before after → CountActs old i (EndEither x) (Ok answer) new before after
+  either_holder x is answer new before after yields = (ap (λ b. unknown_unless (if b then true else is_wait old.hall x)) is, subst (λ b. PartYields registered old i (if b then leave_by old.hall x else end_by old.hall x) answer new before after) (sym is) yields)
+
+  pub either_wait : (x : ℕ) → is_holder old.hall x ≡ false → (result : Result Answer Stop) (new : Part Counts) (before after : Waking ℕ) → CountActs old i (EndWait x) result new before after → CountActs old i (EndEither x) result new before after
+  either_wait x is result new before after acts = subst (λ b. Acts registered (unknown_unless (if b then true else is_wait old.hall x)) (Unit {0}) old i (if b then leave_by old.hall x else end_by old.hall x) result new before after) (sym is) acts
+
 module _ {old : Part Counts} {i : ℕ} (s : Site old i) where
   abbrev here : Counts
   here = counts_seen s.ps s.ss s.hs s.ws
 
   -- an action was done, and no waker was made ready; or some were
   abbrev pub Rests : Action → Answer → Names KeptPoint → Names ℕ → Names HolderEntry → Names WaitEntry → Type 0
-  Rests a answer ps ss hs ws = AreKeptCounts ps ss hs ws (i + 1) × (cause_in old.hall a ≡ None) × PartRests registered old i (act_in old.hall i a) answer (part_of ps ss hs ws (i + 1))
+  Rests a answer ps ss hs ws = AreKeptCounts ps ss hs ws (i + 1) × ((cause_in old.hall a ≡ None) × PartRests registered old i (act_in old.hall i a) answer (part_of ps ss hs ws (i + 1)))
 
   abbrev Yields : Action → Answer → Names KeptPoint → Names ℕ → Names HolderEntry → Names WaitEntry → Waking ℕ → Waking ℕ → Type 0
-  Yields a answer ps ss hs ws before after = AreKeptCounts ps ss hs ws (i + 1) × (cause_in old.hall a ≡ None) × PartYields registered old i (act_in old.hall i a) answer (part_of ps ss hs ws (i + 1)) before after
+  Yields a answer ps ss hs ws before after = AreKeptCounts ps ss hs ws (i + 1) × ((cause_in old.hall a ≡ None) × PartYields registered old i (act_in old.hall i a) answer (part_of ps ss hs ws (i + 1)) before after)
 
   -- what an action does that has no cause for refusal
   module _ (a : Action) (out : Outcome Counts) (is : act_in here i a ≡ out) (allowed : cause_in old.hall a ≡ None) (may : MayAct here a) where
@@ -84,10 +92,10 @@ module _ {old : Part Counts} {i : ℕ} (s : Site old i) where
     module _ (answer : Answer) (replied : answer ≡ out.reply) (ps' : Names KeptPoint) (ss' : Names ℕ) (hs' : Names HolderEntry) (ws' : Names WaitEntry)
         (points : seen point_seen ps' ≡ out.hall.points) (senders : ss' ≡ out.hall.senders) (holders : seen holder_seen hs' ≡ out.hall.holders) (waits : seen wait_seen ws' ≡ out.hall.waits) (each : Each ps' ss' hs' ws' (i + 1)) where
       pub rests_by : out.wakes ≡ [] → kept_in ps' ≡ kept_in s.ps → Rests a answer ps' ss' hs' ws'
-      rests_by silent waiting = let it = rests_as s (λ h. act_in h i a) out is valid answer replied ps' ss' hs' ws' points senders holders waits each silent waiting in (it.0, allowed, it.1)
+      rests_by silent waiting = let it = rests_as s (λ h. act_in h i a) out is valid answer replied ps' ss' hs' ws' points senders holders waits each silent waiting in (it.0, (allowed, it.1))
 
       yields_by : (before after : Waking ℕ) → after.wakers ≡ before.wakers ++ out.wakes → after.registered + kept_in s.ps ≡ before.registered + kept_in ps' → Yields a answer ps' ss' hs' ws' before after
-      yields_by before after woken waiting = let it = yields_as s (λ h. act_in h i a) out is valid answer replied ps' ss' hs' ws' points senders holders waits each before after woken waiting in (it.0, allowed, it.1)
+      yields_by before after woken waiting = let it = yields_as s (λ h. act_in h i a) out is valid answer replied ps' ss' hs' ws' points senders holders waits each before after woken waiting in (it.0, (allowed, it.1))
 
   -- ---- why it is refused, or is not
   pub holder_known : (k : ℕ) (x : HolderEntry) → get s.hs k ≡ Some x → unknown_unless (is_holder old.hall k) ≡ None
@@ -142,7 +150,7 @@ module _ {old : Part Counts} {i : ℕ} (s : Site old i) where
   told a out is allowed same silent answer replied =
       let it = rests_as s (λ h. act_in h i a) out is (rw same (counts_later here s.next (i + 1) s.kept.valid (let later = s.later in omega (arith, later)))) answer replied s.ps s.ss s.hs s.ws
       (ap (λ (h : Counts). h.points) (sym same)) (ap (λ (h : Counts). h.senders) (sym same)) (ap (λ (h : Counts). h.holders) (sym same)) (ap (λ (h : Counts). h.waits) (sym same)) (each_rests s) silent refl in
-      (it.0, allowed, it.1)
+      (it.0, (allowed, it.1))
 
   module _ (k : ℕ) (x : HolderEntry) (e : KeptPoint) (holder : get s.hs k ≡ Some x) (there : get s.ps x.point ≡ Some e) where
     pub numbered : (n : ℕ) → n ≡ e.point.signal.number → Rests (actions.Number k) (answers.Count n) s.ps s.ss s.hs s.ws
@@ -666,14 +674,7 @@ module _ {old : Part Counts} {i : ℕ} (s : Site old i) where
     readied b borrowed hs' given g is over test after woken released ws' gone =
         let left = wait_left f y e future there b (ready_lent b borrowed) hs' given g (is ∙ ap (λ (d : KeptPoint). record d { things = d.things - 1 }) (same).0) over test before after (woken ∙ ap (λ (w : Waking ℕ). w.wakers) (same).2) (released ∙ ap (λ (w : Waking ℕ). w.registered) (same).2)
         ws' (gone ∙ put_gone s.ws f (record y { wait = x' })) in
-        (left.0, wait_known f y future, readies f y e future there w (same).3 answers.Done _ before after left.1.1)
-
-  -- ---- the end of a holder, or else of a future
-  pub either_holder : (x : ℕ) → is_holder old.hall x ≡ true → (answer : Answer) (new : Part Counts) (before after : Waking ℕ) → PartYields registered old i (leave_by old.hall x) answer new before after → CountActs old i (EndEither x) (Ok answer) new before after
-  either_holder x is answer new before after yields = (ap (λ b. unknown_unless (if b then true else is_wait old.hall x)) is, subst (λ b. PartYields registered old i (if b then leave_by old.hall x else end_by old.hall x) answer new before after) (sym is) yields)
-
-  pub either_wait : (x : ℕ) → is_holder old.hall x ≡ false → (result : Result Answer Stop) (new : Part Counts) (before after : Waking ℕ) → CountActs old i (EndWait x) result new before after → CountActs old i (EndEither x) result new before after
-  either_wait x is result new before after acts = subst (λ b. Acts registered (unknown_unless (if b then true else is_wait old.hall x)) (Unit {0}) old i (if b then leave_by old.hall x else end_by old.hall x) result new before after) (sym is) acts
+        (left.0, (wait_known f y future, readies f y e future there w (same).3 answers.Done _ before after left.1.1))
 
   -- what a future borrows is there, and counted
   pub lender_some : (f : ℕ) (y : WaitEntry) → get s.ws f ≡ Some y → (b : Option ℕ) → b ≡ borrowed_of y.wait → IfSome b (λ k. IfSome (get s.hs k) (λ x. 1 ≤ x.borrowers) × IsSome (get s.hs k))

@@ -51,7 +51,6 @@ module _ (ps : Names KeptPoint) (ss : Names ℕ) (hs : Names HolderEntry) (ws : 
   pub point_is : (o : ℕ) (p : Option KeptPoint) → get ps o ≡ p → option_map point_seen p ≡ get old.hall.points o
   point_is o p is = ap (option_map point_seen) (sym is) ∙ sym (get-seen (λ k e. point_seen e) ps o) ∙ ap (λ (p : Part Counts). get p.hall.points o) view
 
-
 -- what the points keep to, each with what is of it
 pub record Each (ps : Names KeptPoint) (ss : Names ℕ) (hs : Names HolderEntry) (ws : Names WaitEntry) (n : ℕ) : Type 0 where
   pub at : (o : ℕ) (e : KeptPoint) → get ps o ≡ Some e → AreKept e (own of_wait o ws) (own of_holder o hs) (own model.of_itself o ss) n

@@ -37,7 +37,7 @@ pub returns-in-Ok-Pending : goal.returns-in-Ok-Pending
 returns-in-Ok-Pending c = let turns = rw c.in-Ok-Pending.field-0-is at c.in-Ok-Pending.ensures.turns in (pends (site c.self.inside.barriers c.self.inside.waits c.self.inside.next c.self.view_is c.self.invariant c.requires.next) c.in-Some.future.now.barrier c.at_mut-entry.result.now c.at_mut-entry.ensures.value c.args.f c.in-Some.future.now (sym c.get_mut.ensures.value ∙ ap option_copied_mut c.in-Some.is) refl c.args.waker c.poll.new.self c.poll.new.wait c.args.ready.now c.poll.new.ready turns).1
 
 pub overflow_sub-entry : goal.overflow_sub-entry
-overflow_sub-entry c = 
+overflow_sub-entry c =
     let turns = rw c.in-Ok-Ready.field-0-is at c.in-Ok-Ready.ensures.turns in
     let same = turns.waits in
     let some = some_waits (site c.self.inside.barriers c.self.inside.waits c.self.inside.next c.self.view_is c.self.invariant c.requires.next) c.in-Some.future.now.barrier c.at_mut-entry.result.now c.at_mut-entry.ensures.value c.args.f c.in-Some.future.now (sym c.get_mut.ensures.value ∙ ap option_copied_mut c.in-Some.is) refl in
@@ -47,11 +47,11 @@ pub remove-requires : goal.remove-requires
 remove-requires c = is_there _ _ (get-there c.self.inside.waits c.args.f _)
 
 pub invariant_of-self-in-Ok-Ready : goal.invariant_of-self-in-Ok-Ready
-invariant_of-self-in-Ok-Ready c = 
+invariant_of-self-in-Ok-Ready c =
     let turns = rw c.in-Ok-Ready.field-0-is at c.in-Ok-Ready.ensures.turns in
     rw (c.remove.ensures.rest, put_gone c.self.inside.waits c.args.f (record { barrier = c.in-Some.future.now.barrier; wait = c.poll.new.wait })) ((readies (site c.self.inside.barriers c.self.inside.waits c.self.inside.next c.self.view_is c.self.invariant c.requires.next) c.in-Some.future.now.barrier c.at_mut-entry.result.now c.at_mut-entry.ensures.value c.args.f c.in-Some.future.now (sym c.get_mut.ensures.value ∙ ap option_copied_mut c.in-Some.is) refl c.args.waker c.poll.new.self c.poll.new.wait c.args.ready.now c.poll.new.ready c.ranges.number.fits c.in-Ok-Ready.told turns).0)
 
 pub returns-in-Ok-Ready : goal.returns-in-Ok-Ready
-returns-in-Ok-Ready c = 
+returns-in-Ok-Ready c =
     let turns = rw c.in-Ok-Ready.field-0-is at c.in-Ok-Ready.ensures.turns in
     rw (c.remove.ensures.rest, put_gone c.self.inside.waits c.args.f (record { barrier = c.in-Some.future.now.barrier; wait = c.poll.new.wait }), c.reply_of.ensures) ((readies (site c.self.inside.barriers c.self.inside.waits c.self.inside.next c.self.view_is c.self.invariant c.requires.next) c.in-Some.future.now.barrier c.at_mut-entry.result.now c.at_mut-entry.ensures.value c.args.f c.in-Some.future.now (sym c.get_mut.ensures.value ∙ ap option_copied_mut c.in-Some.is) refl c.args.waker c.poll.new.self c.poll.new.wait c.args.ready.now c.poll.new.ready c.ranges.number.fits c.in-Ok-Ready.told turns).1)
