@@ -32,7 +32,7 @@ use Rattle.mea_meet_core.specs.declared.barrier_fault.BarrierFault.{BarrierFault
 use Rattle.mea_meet_core.specs.declared.barrier_wait.BarrierWait.{BarrierWait as Wait}
 use Rattle.mea_meet_core.specs.declared.barrier_wait.BarrierWait.TheVariants.{New, Arrived, Done}
 use Rattle.mea_meet_model.specs.Barriers as model
-use Rattle.mea_meet_model.specs.Barriers.{Barriers, Barrier, BarrierWait, no_barriers, new_barrier, is_barrier, is_wait, waits_of, registered, leads, has_completed}
+use Rattle.mea_meet_model.specs.Barriers.{Barriers, Barrier, no_barriers, is_barrier, is_wait, waits_of, registered, leads, has_completed}
 use Rattle.mea_meet_model.specs.BarrierActions.{BarrierAction, Make, Begin, Poll as PollIt, End, Drop, cause_at, act_at}
 use Rattle.mea_meet_model.specs.Valid.{HasBarriers, IsBarrier}
 use Rattle.mea_meet_model.proofs.BarriersKept.{barriers_empty, keeps}

@@ -1,5 +1,5 @@
 -- what each call of the part of points that count makes of them
-use Rattle.std.proofs.Common.{◌≡◌, ◌≢◌, ℕ, ◌+◌, ◌-◌, ◌<◌, ◌≤◌, ◌^◌, ◌==◌, ◌&&◌, ◌++◌, Bool, true, false, cond, [], nat_lt, Option, Some, None, IsSome, is_some, unwrap_or, if◌then◌else◌, refl, ap, sym, subst, ◌∙◌, arith, append-nil}
+use Rattle.std.proofs.Common.{◌≡◌, ◌≢◌, ℕ, ◌+◌, ◌-◌, ◌<◌, ◌≤◌, ◌^◌, ◌==◌, ◌&&◌, ◌++◌, Bool, true, false, cond, [], nat_lt, Option, Some, None, IsSome, unwrap_or, if◌then◌else◌, refl, ap, sym, subst, ◌∙◌, arith, append-nil}
 use Rattle.std.specs.Prelude.{IfSome, Result, Ok}
 use Rattle.std.specs.Option.{option_map}
 use Rattle.std.specs.FinMap.{get, insert, remove, len}
@@ -23,7 +23,7 @@ use Rattle.mea_sets.specs.Poll.{Ready, Pending}
 use Rattle.mea_sets.specs.WaitSet.{has_given}
 use Rattle.mea_meet_model.specs.Count.{Count, with_waker}
 use Rattle.mea_meet_model.specs.Counts as model
-use Rattle.mea_meet_model.specs.Counts.{Counts, Point, End, Holder, Awaited, Wait, New, is_holder, is_sender, is_wait, borrows, borrowers_of, registered, of_itself, tidied}
+use Rattle.mea_meet_model.specs.Counts.{Counts, Point, Holder, Wait, is_holder, is_sender, is_wait, borrows, borrowers_of, registered, of_itself, tidied}
 use Rattle.mea_meet_model.specs.CountActions.{Action, Begin, Join, Watch, Into, EndHolder, Copy, EndWait, EndEither, CopySender, Await, EndSender, act_in, cause_in, end_by, leave_by, join_cause, overflow_at, is_counted}
 use Rattle.mea_meet_model.specs.CountActions as actions
 use Rattle.mea_meet_model.specs.Valid.{HasCounts, BorrowNothing}

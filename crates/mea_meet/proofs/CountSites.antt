@@ -14,7 +14,7 @@ use Rattle.mea_by_name.specs.ByName.{Names, seen, own}
 use Rattle.mea_by_name.proofs.Cases.{found_is, if_true, if_false}
 use Rattle.mea_by_name.proofs.Own.{Moves, moves_elsewhere, seen-at, seen-empty, seen-insert, seen-remove, own-empty, put_gone, own-seen, len-seen, seen-none_back, seen-some_back}
 use Rattle.mea_meet_model.specs.Counts as model
-use Rattle.mea_meet_model.specs.Counts.{Counts, Point, End, Holder, Awaited, Wait, New, no_counts, is_holder, is_sender, is_wait, borrows, borrowers_of, registered, things_of, tidied}
+use Rattle.mea_meet_model.specs.Counts.{Counts, Point, no_counts, is_holder, is_sender, is_wait, registered, things_of, tidied}
 use Rattle.mea_meet_model.specs.CountActions.{Action, act_in, cause_in}
 use Rattle.mea_meet_model.specs.Valid.{HasCounts}
 use Rattle.mea_meet_model.proofs.CountsKept.{counts_empty, no_point, no_holder, no_wait, no_sender}

@@ -1,5 +1,5 @@
 -- points that count as the hall keeps them: what is seen of them, and what they keep to
-use Rattle.std.specs.Prelude.{ℕ, ◌≡◌, ◌+◌, ◌-◌, ◌≤◌, Bool, [], Option, Some, None}
+use Rattle.std.specs.Prelude.{ℕ, ◌≡◌, ◌+◌, ◌-◌, ◌≤◌, [], Option, Some, None}
 use Rattle.std.specs.FinMap.{get, insert, len}
 use Rattle.mea_by_name.specs.declared.named_waker.NamedWaker.{NamedWaker}
 use Rattle.mea_by_name.specs.ByName.{Names, seen, own, count}

@@ -9,7 +9,6 @@ use Rattle.mea_family.proofs.Causes.{known}
 use Rattle.mea_meet_model.specs.Barriers as barriers
 use Rattle.mea_meet_model.specs.BarrierActions.{BarrierAction, act_at, cause_at, polled_at}
 use Rattle.mea_meet_model.specs.Counts as counts
-use Rattle.mea_meet_model.specs.Counts.{Counts}
 use Rattle.mea_meet_model.specs.CountActions.{Action, act_in, cause_in, polled_in}
 use Rattle.mea_meet_model.specs.Hall.{Hall, Kind, Latches, Groups, Shutdowns, part}
 use Rattle.mea_meet_model.specs.Meaning.{Meaning, OnBarriers, OnCounts, meaning_of}

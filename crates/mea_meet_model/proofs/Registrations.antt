@@ -6,7 +6,7 @@ use Rattle.mea_events.specs.declared.meet_event.MeetEvent.{MeetEvent}
 use Rattle.mea_meet_model.specs.Barriers as barriers
 use Rattle.mea_meet_model.specs.Barriers.{Barrier}
 use Rattle.mea_meet_model.specs.Counts as counts
-use Rattle.mea_meet_model.specs.Counts.{Counts, Point, count_at, end_of}
+use Rattle.mea_meet_model.specs.Counts.{Point}
 use Rattle.mea_meet_model.specs.Hall.{Hall, Latches, Groups, Shutdowns, empty_hall, registered}
 use Rattle.mea_meet_model.specs.Meaning.{Meaning, OnBarriers, OnCounts, meaning_of}
 use Rattle.mea_meet_model.specs.Step.{step_by, step, registers_by, registers}
