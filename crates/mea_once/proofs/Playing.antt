@@ -137,6 +137,9 @@ module _ (o v : Part Cells) (m g : Part Tables) (i : ℕ) (d : Meaning) where
   maps_played a (Ok answer) q before after is yields = subst (λ d. PlaysBy d (parts o v m g) i answer (parts o v q g) before after) (sym is) (record { part = q; is = refl; yields = yields })
   maps_played a (Err z) q before after is yields = tt
 
+  pub maps_told : (a : KeyAction) (answer : Answer) (q : Part Tables) (w : Waking ℕ) → d ≡ on_maps a → PartRests tables.registered m i (key_act false m.hall i a) answer q → PlaysBy d (parts o v m g) i answer (parts o v q g) w w
+  maps_told a answer q w is rests = subst (λ d. PlaysBy d (parts o v m g) i answer (parts o v q g) w w) (sym is) (record { part = q; is = refl; yields = table_rests m i (key_act false m.hall i a) answer q w rests })
+
   pub groups_played : (a : KeyAction) (r : Result Answer NoMemory) (q : Part Tables) (before after : Waking ℕ) → d ≡ on_groups a → IfOk r (λ answer. PartYields tables.registered g i (key_act true g.hall i a) answer q before after) → IfOk r (λ answer. PlaysBy d (parts o v m g) i answer (parts o v m q) before after)
   groups_played a (Ok answer) q before after is yields = subst (λ d. PlaysBy d (parts o v m g) i answer (parts o v m q) before after) (sym is) (record { part = q; is = refl; yields = yields })
   groups_played a (Err z) q before after is yields = tt

@@ -278,7 +278,6 @@ impl<C: ValueCore> KeyPart<C> {
         ensures { result ≡ key_cause self.now.hall (value_action action) }
     {
         match action {
-            ValueAction::Table(action) => self.cause(action),
             ValueAction::Tell(o, _) | ValueAction::Remove(o, _) => {
                 unknown_unless(self.is_table(o))
             }
@@ -286,23 +285,14 @@ impl<C: ValueCore> KeyPart<C> {
     }
 
     /// Does what has no cause for refusal. On an error nothing has changed.
-    pub fn play_value(
-        &mut self,
-        number: u64,
-        action: ValueAction,
-        ready: &mut Ready<u64>,
-    ) -> Result<Answer, NoMemory>
+    pub fn play_value(&mut self, number: u64, action: ValueAction) -> Answer
         requires next { self.old.next ≤ number }
         requires allowed { key_cause self.old.hall (value_action action) ≡ None }
-        requires room { registered self.old.hall ≤ ready.old.registered }
-        ensures ok { IfOk result (λ answer. PartYields registered self.old number (key_act C.TableCore.is_once self.old.hall number (value_action action)) answer self.new ready.old ready.new) }
-        ensures no_memory { IsKeyFree (value_action action) → OnErr result ⊥ }
-        ensures err { OnErr result ((self.new ≡ self.old) × (ready.new ≡ ready.old)) }
+        ensures { PartRests registered self.old number (key_act C.TableCore.is_once self.old.hall number (value_action action)) result self.new }
     {
         match action {
-            ValueAction::Table(action) => self.play(number, action, ready),
-            ValueAction::Tell(o, key) => Ok(self.tell(number, o, key)),
-            ValueAction::Remove(o, key) => Ok(self.remove(number, o, key)),
+            ValueAction::Tell(o, key) => self.tell(number, o, key),
+            ValueAction::Remove(o, key) => self.remove(number, o, key),
         }
     }
 

@@ -54,9 +54,11 @@ impl Kinds {
         ensures { result ≡ cause_by (hall_of (parts self.now.onces self.now.values self.now.maps self.now.groups)) (meant meaning) }
     {
         match meaning {
-            Meaning::Onces(action) => self.onces.cause_wait(action),
-            Meaning::Values(action) => self.values.cause_whole(action),
-            Meaning::Maps(action) => self.maps.cause_value(action),
+            Meaning::Onces(action) => self.onces.cause(action),
+            Meaning::Cells(action) => self.values.cause(action),
+            Meaning::Wholes(action) => self.values.cause_whole(action),
+            Meaning::Maps(action) => self.maps.cause(action),
+            Meaning::Values(action) => self.maps.cause_value(action),
             Meaning::Groups(action) => self.groups.cause(action),
         }
     }
@@ -80,9 +82,11 @@ impl Kinds {
             ≡ parts self.old.onces self.old.values self.old.maps self.old.groups) × (ready.new ≡ ready.old)) }
     {
         match meaning {
-            Meaning::Onces(action) => self.onces.play_wait(number, action, ready),
-            Meaning::Values(action) => self.values.play_whole(number, action, ready),
-            Meaning::Maps(action) => self.maps.play_value(number, action, ready),
+            Meaning::Onces(action) => self.onces.play(number, action, ready),
+            Meaning::Cells(action) => self.values.play(number, action, ready),
+            Meaning::Wholes(action) => self.values.play_whole(number, action, ready),
+            Meaning::Maps(action) => self.maps.play(number, action, ready),
+            Meaning::Values(action) => Ok(self.maps.play_value(number, action)),
             Meaning::Groups(action) => self.groups.play(number, action, ready),
         }
     }

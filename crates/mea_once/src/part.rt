@@ -6,15 +6,16 @@ ghost use Rattle.mea_once_model.specs.Cells.{no_cells, is_cell, is_future, is_un
 ghost use Rattle.mea_once_model.specs.Actions.{act_in, cause_in, Make, Begin, Poll, Settle, End, TellFull, Tell, Peek, Put, Take, TakeOut, Drop, in_the_way};
 ghost use Rattle.mea_once_model.specs.Valid.{HasCells};
 ghost use Rattle.mea_once.specs.Parts.{IsNewCell, fits, FitsSettled};
-ghost use Rattle.mea_once.specs.Actions.{turn_action, wait_action, whole_action, FitsTurn, FitsWait, FitsWhole};
+ghost use Rattle.mea_once.specs.Actions.{turn_action, whole_action, FitsTurn};
 ghost use Rattle.mea_once.specs.Halls.{IsFree};
 ghost use Rattle.mea_once.specs.Lends.{StandsFor};
 
-use crate::actions::{TurnAction, WaitAction, WholeAction};
+use crate::actions::{TurnAction, WholeAction};
 use crate::cell_entry::CellEntry;
 use crate::future_entry::FutureEntry;
 use crate::jobs::{can_settle, content, done_if, is_alone, yes_if_full};
-use crate::turn_core::{TurnCore, WaitCore, WholeCore};
+use crate::polled_core::PolledCore;
+use crate::turn_core::{TurnCore, WholeCore};
 use mea_base::{NoMemory, Ready};
 use mea_by_name::ByName;
 use mea_family::{Answer, Stop, borrowed_if, unknown_unless};
@@ -85,6 +86,7 @@ impl<C: TurnCore> CellPart<C> {
         match action {
             TurnAction::Make => None,
             TurnAction::Begin(o, job) => self.cause_of_begin(o, job),
+            TurnAction::Poll(f, _) => unknown_unless(self.is_future(f)),
             TurnAction::Settle(f, _) => unknown_unless(self.is_unsettled(f)),
             TurnAction::End(f) => unknown_unless(self.is_future(f)),
             TurnAction::TellFull(o) | TurnAction::Tell(o) => self.cause_of_use(o),
@@ -136,32 +138,6 @@ impl<C: TurnCore> CellPart<C> {
         match self.cells.get(o) {
             Some(entry) => borrowed_if(entry.has_futures()),
             None => Some(Stop::Unknown),
-        }
-    }
-
-    /// Does what has no cause for refusal. On an error nothing has changed.
-    pub fn play(
-        &mut self,
-        number: u64,
-        action: TurnAction,
-        ready: &mut Ready<u64>,
-    ) -> Result<Answer, NoMemory>
-        requires next { self.old.next ≤ number }
-        requires fits { FitsTurn C.is_once action }
-        requires allowed { cause_in self.old.hall (turn_action action) ≡ None }
-        requires room { registered self.old.hall ≤ ready.old.registered }
-        ensures ok { IfOk result (λ answer. PartYields registered self.old number (act_in self.old.hall number (turn_action action)) answer self.new ready.old ready.new) }
-        ensures no_memory { IsFree (turn_action action) → OnErr result ⊥ }
-        ensures err { OnErr result ((self.new ≡ self.old) × (ready.new ≡ ready.old)) }
-    {
-        match action {
-            TurnAction::Make => self.make(number, C::empty(self.alloc)),
-            TurnAction::Begin(o, job) => self.begin(number, o, job),
-            TurnAction::Settle(f, outcome) => Ok(self.settle(number, f, outcome, ready)),
-            TurnAction::End(f) => Ok(self.end(number, f, ready)),
-            TurnAction::TellFull(o) => Ok(self.tell_full(number, o)),
-            TurnAction::Tell(o) => Ok(self.tell(number, o)),
-            TurnAction::Drop(o) => Ok(self.end_cell(number, o, ready)),
         }
     }
 
@@ -276,40 +252,36 @@ impl<C: TurnCore> CellPart<C> {
     }
 }
 
-impl<C: WaitCore> CellPart<C> {
-    /// Why an action is refused; None where it is not. It takes no memory.
-    pub fn cause_wait(&self, action: WaitAction) -> Option<Stop>
-        ensures { result ≡ cause_in self.now.hall (wait_action action) }
-    {
-        match action {
-            WaitAction::Turn(action) => self.cause(action),
-            WaitAction::Poll(f, _) => unknown_unless(self.is_future(f)),
-        }
-    }
-
+impl<C: PolledCore> CellPart<C> {
     /// Does what has no cause for refusal. On an error nothing has changed.
-    pub fn play_wait(
+    pub fn play(
         &mut self,
         number: u64,
-        action: WaitAction,
+        action: TurnAction,
         ready: &mut Ready<u64>,
     ) -> Result<Answer, NoMemory>
         requires next { self.old.next ≤ number }
-        requires fits { FitsWait action }
-        requires allowed { cause_in self.old.hall (wait_action action) ≡ None }
+        requires fits { FitsTurn C.TurnCore.is_once action }
+        requires allowed { cause_in self.old.hall (turn_action action) ≡ None }
         requires room { registered self.old.hall ≤ ready.old.registered }
-        ensures ok { IfOk result (λ answer. PartYields registered self.old number (act_in self.old.hall number (wait_action action)) answer self.new ready.old ready.new) }
-        ensures no_memory { IsFree (wait_action action) → OnErr result ⊥ }
+        ensures ok { IfOk result (λ answer. PartYields registered self.old number (act_in self.old.hall number (turn_action action)) answer self.new ready.old ready.new) }
+        ensures no_memory { IsFree (turn_action action) → OnErr result ⊥ }
         ensures err { OnErr result ((self.new ≡ self.old) × (ready.new ≡ ready.old)) }
     {
         match action {
-            WaitAction::Turn(action) => self.play(number, action, ready),
-            WaitAction::Poll(f, waker) => self.poll_wait(number, f, waker, ready),
+            TurnAction::Make => self.make(number, C::empty(self.alloc)),
+            TurnAction::Begin(o, job) => self.begin(number, o, job),
+            TurnAction::Poll(f, waker) => self.poll(number, f, waker, ready),
+            TurnAction::Settle(f, outcome) => Ok(self.settle(number, f, outcome, ready)),
+            TurnAction::End(f) => Ok(self.end(number, f, ready)),
+            TurnAction::TellFull(o) => Ok(self.tell_full(number, o)),
+            TurnAction::Tell(o) => Ok(self.tell(number, o)),
+            TurnAction::Drop(o) => Ok(self.end_cell(number, o, ready)),
         }
     }
 
     // Polls a future. On an error nothing has changed.
-    fn poll_wait(
+    fn poll(
         &mut self,
         number: u64,
         f: u64,
@@ -325,7 +297,7 @@ impl<C: WaitCore> CellPart<C> {
         let future = self.futures.at_mut(f);
         let o = future.cell;
         let entry = self.cells.at_mut(o);
-        match entry.poll_wait_or_call(f, future, waker, ready) {
+        match C::poll_at(entry, f, future, waker, ready) {
             Err(_) => Err(NoMemory),
             Ok(told) => {
                 self.futures.remove_if(f, told.over);
@@ -342,8 +314,6 @@ impl<C: WholeCore> CellPart<C> {
         ensures { result ≡ cause_in self.now.hall (whole_action action) }
     {
         match action {
-            WholeAction::Turn(action) => self.cause(action),
-            WholeAction::Poll(f, _) => unknown_unless(self.is_future(f)),
             WholeAction::MakeFull(_) => None,
             WholeAction::Peek(o) | WholeAction::Put(o, _) => self.cause_of_whole(o),
             WholeAction::Take(o) | WholeAction::TakeOut(o) => self.cause_of_whole(o),
@@ -358,7 +328,6 @@ impl<C: WholeCore> CellPart<C> {
         ready: &mut Ready<u64>,
     ) -> Result<Answer, NoMemory>
         requires next { self.old.next ≤ number }
-        requires fits { FitsWhole action }
         requires allowed { cause_in self.old.hall (whole_action action) ≡ None }
         requires room { registered self.old.hall ≤ ready.old.registered }
         ensures ok { IfOk result (λ answer. PartYields registered self.old number (act_in self.old.hall number (whole_action action)) answer self.new ready.old ready.new) }
@@ -366,40 +335,11 @@ impl<C: WholeCore> CellPart<C> {
         ensures err { OnErr result ((self.new ≡ self.old) × (ready.new ≡ ready.old)) }
     {
         match action {
-            WholeAction::Turn(action) => self.play(number, action, ready),
-            WholeAction::Poll(f, waker) => self.poll_whole(number, f, waker, ready),
             WholeAction::MakeFull(value) => self.make(number, C::full(self.alloc, value)),
             WholeAction::Peek(o) => Ok(self.peek(number, o)),
             WholeAction::Put(o, value) => Ok(self.put(number, o, value)),
             WholeAction::Take(o) => Ok(self.take(number, o)),
             WholeAction::TakeOut(o) => Ok(self.take_out(number, o, ready)),
-        }
-    }
-
-    // Polls a future. On an error nothing has changed.
-    fn poll_whole(
-        &mut self,
-        number: u64,
-        f: u64,
-        waker: u64,
-        ready: &mut Ready<u64>,
-    ) -> Result<Answer, NoMemory>
-        requires next { self.old.next ≤ number }
-        requires there { is_future self.old.hall f ≡ true }
-        requires room { registered self.old.hall ≤ ready.old.registered }
-        ensures ok { IfOk result (λ answer. PartYields registered self.old number (act_in self.old.hall number (Poll f waker)) answer self.new ready.old ready.new) }
-        ensures err { OnErr result ((self.new ≡ self.old) × (ready.new ≡ ready.old)) }
-    {
-        let future = self.futures.at_mut(f);
-        let o = future.cell;
-        let entry = self.cells.at_mut(o);
-        match entry.poll_alone_or_call(f, future, waker, ready) {
-            Err(_) => Err(NoMemory),
-            Ok(told) => {
-                self.futures.remove_if(f, told.over);
-                self.next = number as u128 + 1;
-                Ok(told.answer)
-            }
         }
     }
 

@@ -1,5 +1,5 @@
 use Rattle.std.proofs.Common.{ap, Ok, sym, ◌∙◌}
-use Rattle.mea_once_model.specs.Actions.{Make, Begin, Settle, End, TellFull, Tell, Drop}
+use Rattle.mea_once_model.specs.Actions.{Make, Begin, Poll, Settle, End, TellFull, Tell, Drop}
 use Rattle.mea_once.specs.Actions.{turn_action}
 use Rattle.mea_once.proofs.Playing.{cells_did, cells_rested}
 use Rattle.mea_once.proofs.part.CellPart.play.Goals as goal
@@ -9,6 +9,9 @@ returns-in-Make-clause-ok g c = cells_rested c.args.self.now c.args.number (turn
 
 pub returns-in-Begin-clause-ok : goal.returns-in-Begin-clause-ok
 returns-in-Begin-clause-ok g c = cells_rested c.args.self.now c.args.number (turn_action c.args.action) (Begin c.in-Begin.o c.in-Begin.job) (ap turn_action c.in-Begin.is) c.begin.result c.begin.new.self c.args.ready.now c.begin.ensures.ok
+
+pub returns-in-Poll-clause-ok : goal.returns-in-Poll-clause-ok
+returns-in-Poll-clause-ok g c = cells_did c.args.self.now c.args.number (turn_action c.args.action) (Poll c.in-Poll.f c.in-Poll.waker) (ap turn_action c.in-Poll.is) c.poll.result c.poll.new.self c.args.ready.now c.poll.new.ready c.poll.ensures.ok
 
 pub returns-in-Settle-clause-ok : goal.returns-in-Settle-clause-ok
 returns-in-Settle-clause-ok g c = cells_did c.args.self.now c.args.number (turn_action c.args.action) (Settle c.in-Settle.f c.in-Settle.outcome) (ap turn_action c.in-Settle.is) (Ok c.settle.result) c.settle.new.self c.args.ready.now c.settle.new.ready c.settle.ensures

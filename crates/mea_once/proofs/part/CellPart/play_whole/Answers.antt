@@ -1,17 +1,8 @@
-use Rattle.std.proofs.Common.{ap, Ok, sym, subst, ◌∙◌}
-use Rattle.mea_once_model.specs.Actions.{Make, Poll, Peek, Put, Take, TakeOut}
-use Rattle.mea_once.specs.Actions.{FitsTurn, FitsWhole, turn_action, whole_action}
+use Rattle.std.proofs.Common.{ap, Ok, sym, ◌∙◌}
+use Rattle.mea_once_model.specs.Actions.{Make, Peek, Put, Take, TakeOut}
+use Rattle.mea_once.specs.Actions.{whole_action}
 use Rattle.mea_once.proofs.Playing.{cells_did, cells_rested}
 use Rattle.mea_once.proofs.part.CellPart.play_whole.Goals as goal
-
-pub play-requires-clause-fits : goal.play-requires-clause-fits
-play-requires-clause-fits g c = subst (λ b. FitsTurn b c.in-Turn.action) (sym g.met.C.WholeCore.fills) (subst FitsWhole c.in-Turn.is c.requires.fits)
-
-pub returns-in-Turn-clause-ok : goal.returns-in-Turn-clause-ok
-returns-in-Turn-clause-ok g c = cells_did c.args.self.now c.args.number (whole_action c.args.action) (turn_action c.in-Turn.action) (ap whole_action c.in-Turn.is) c.play.result c.play.new.self c.args.ready.now c.play.new.ready c.play.ensures.ok
-
-pub returns-in-Poll-clause-ok : goal.returns-in-Poll-clause-ok
-returns-in-Poll-clause-ok g c = cells_did c.args.self.now c.args.number (whole_action c.args.action) (Poll c.in-Poll.f c.in-Poll.waker) (ap whole_action c.in-Poll.is) c.poll_whole.result c.poll_whole.new.self c.args.ready.now c.poll_whole.new.ready c.poll_whole.ensures.ok
 
 pub returns-in-MakeFull-clause-ok : goal.returns-in-MakeFull-clause-ok
 returns-in-MakeFull-clause-ok g c = cells_rested c.args.self.now c.args.number (whole_action c.args.action) (Make (g.C.TurnCore.seen_as c.full.result).value) (ap whole_action c.in-MakeFull.is ∙ ap Make (sym c.full.ensures.value)) c.make-in-MakeFull.result c.make-in-MakeFull.new.self c.args.ready.now c.make-in-MakeFull.ensures.ok
