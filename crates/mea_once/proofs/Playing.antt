@@ -1,29 +1,37 @@
 -- what is said of the things of one kind, and of all
-use Rattle.std.proofs.Common.{◌≡◌, ℕ, ◌+◌, ◌++◌, Bool, true, false, Result, Ok, Err, IfOk, refl, ap, sym, subst, ◌∙◌, arith, append-nil}
+use Rattle.std.proofs.Common.{◌≡◌, ℕ, ◌+◌, ◌++◌, Bool, Option, Result, Ok, Err, refl, ap, sym, subst, ◌∙◌, arith, append-nil}
 use Rattle.mea_family.specs.declared.answer.Answer.{Answer}
-use Rattle.mea_base.specs.declared.no_memory.NoMemory.{NoMemory}
+use Rattle.mea_family.specs.declared.stop.Stop.{Stop}
 use Rattle.mea_family.specs.Family.{Outcome}
 use Rattle.mea_base.specs.Ready.{Waking}
-use Rattle.mea_family.specs.Play.{Part, PartYields, PartRests}
+use Rattle.mea_family.specs.Play.{Part, PartYields}
 use Rattle.mea_events.specs.declared.once_event.OnceEvent.{OnceEvent}
 use Rattle.mea_once_model.specs.Cells as cells
 use Rattle.mea_once_model.specs.Cells.{Cells}
 use Rattle.mea_once_model.specs.Tables as tables
 use Rattle.mea_once_model.specs.Tables.{Tables}
-use Rattle.mea_once_model.specs.Actions.{Action, act_in}
-use Rattle.mea_once_model.specs.KeyActions.{KeyAction, key_act}
-use Rattle.mea_once_model.specs.OnceHall.{OnceHall, Kind, Onces, Values, TableKind, Maps, Groups, registered}
-use Rattle.mea_once_model.specs.Meaning.{Meaning, OfCells, OfTables, on_onces, on_values, on_maps, on_groups, meaning_of, step, step_by}
-use Rattle.mea_once.specs.Halls.{Parts, parts, hall_of, AreBelow, PlaysCells, PlaysTables, PlaysBy}
+use Rattle.mea_once_model.specs.Actions.{Action, cause_in, act_in}
+use Rattle.mea_once_model.specs.KeyActions.{KeyAction, key_cause, key_act}
+use Rattle.mea_once_model.specs.OnceHall.{OnceHall, Kind, Onces, Values, TableKind, Maps, Groups, registered, is_once}
+use Rattle.mea_once_model.specs.Meaning.{Meaning, OfCells, OfTables, meaning_of, step, step_by}
+use Rattle.mea_once.specs.Halls.{Parts, hall_of, AreBelow, of_kind, with_kind, of_table_kind, with_table_kind, PlaysCells, PlaysTables, PlaysBy, IsFree, IsKeyFree}
+use Rattle.mea_once.specs.Acts.{Acts, ActsQuietly, CellActs, CellActsQuietly, KeyActs, KeyActsQuietly, ActsBy}
 
--- where no waker was made ready, those that are ready are as they were
-yield_rests : (old : Part Cells) (i : ℕ) (o : Outcome Cells) (answer : Answer) (new : Part Cells) (w : Waking ℕ) → PartRests cells.registered old i o answer new → PartYields cells.registered old i o answer new w w
-yield_rests old i o answer new w rests = record {
+-- what makes no waker ready leaves those that are ready as they were
+quietly : {H : Type 0} (registered : H → ℕ) (cause : Option Stop) (free : Type 0) (old : Part H) (i : ℕ) (o : Outcome H) (r : Result Answer Stop) (new : Part H) (w : Waking ℕ) → ActsQuietly registered cause free old i o r new → Acts registered cause free old i o r new w w
+quietly registered cause free old i o (Ok answer) new w (none, rests) = (none, record {
   replied = rests.replied;
   moved = rests.moved;
   woken = sym (append-nil w.wakers) ∙ ap (λ ws. w.wakers ++ ws) (sym rests.silent);
   counted = omega (arith, rests.counted);
-}
+})
+quietly registered cause free old i o (Err stop) new w (refuses, same) = (refuses, same, refl)
+
+pub cells_rest : (old : Part Cells) (i : ℕ) (a : Action) (r : Result Answer Stop) (new : Part Cells) (w : Waking ℕ) → CellActsQuietly old i a r new → CellActs old i a r new w w
+cells_rest old i a r new w = quietly cells.registered (cause_in old.hall a) (IsFree a) old i (act_in old.hall i a) r new w
+
+pub tables_rest : (once : Bool) (old : Part Tables) (i : ℕ) (a : KeyAction) (r : Result Answer Stop) (new : Part Tables) (w : Waking ℕ) → KeyActsQuietly once old i a r new → KeyActs once old i a r new w w
+tables_rest once old i a r new w = quietly tables.registered (key_cause old.hall a) (IsKeyFree a) old i (key_act once old.hall i a) r new w
 
 module _ (p p' : Parts) (before after : Waking ℕ) (next i : ℕ) (answer : Answer) (held : AreBelow p i) where
   -- what an event leaves: next numbers that are below the next one, and the registered wakers counted
@@ -96,50 +104,16 @@ module _ (p p' : Parts) (before after : Waking ℕ) (next i : ℕ) (answer : Ans
   pub yields_all : (e : OnceEvent) (m : Meaning) → m ≡ meaning_of e → PlaysBy m p i answer p' before after → Yielding (step (hall_of p) i e)
   yields_all e m is plays = subst (λ d. Yielding (step_by (hall_of p) i d)) is (yields_by m plays)
 
--- ---- an action on one kind
--- what was done to cells, in other words; and where no waker was made ready
-module _ (old : Part Cells) (i : ℕ) (a b : Action) (is : a ≡ b) where
-  pub cells_did : (r : Result Answer NoMemory) (new : Part Cells) (before after : Waking ℕ) → IfOk r (λ answer. PartYields cells.registered old i (act_in old.hall i b) answer new before after) → IfOk r (λ answer. PartYields cells.registered old i (act_in old.hall i a) answer new before after)
-  cells_did r new before after did = subst (λ x. IfOk r (λ answer. PartYields cells.registered old i (act_in old.hall i x) answer new before after)) (sym is) did
+-- ---- what means an action on one kind was asked where the action was asked of that kind
+module _ (p : Parts) (i : ℕ) (d : Meaning) where
+  pub cells_act : (k : Kind) (a : Action) (r : Result Answer Stop) (q : Part Cells) (before after : Waking ℕ) → d ≡ OfCells (record { kind = k; action = a }) → CellActs (of_kind p k) i a r q before after → ActsBy d p i r (with_kind p k q) before after
+  cells_act Onces a (Ok answer) q before after is (none, yields) = subst (λ d. ActsBy d p i (Ok answer) (with_kind p Onces q) before after) (sym is) (none, record { part = q; is = refl; yields = yields })
+  cells_act Onces a (Err stop) q before after is (refuses, same, still) = subst (λ d. ActsBy d p i (Err stop) (with_kind p Onces q) before after) (sym is) (refuses, ap (with_kind p Onces) same, still)
+  cells_act Values a (Ok answer) q before after is (none, yields) = subst (λ d. ActsBy d p i (Ok answer) (with_kind p Values q) before after) (sym is) (none, record { part = q; is = refl; yields = yields })
+  cells_act Values a (Err stop) q before after is (refuses, same, still) = subst (λ d. ActsBy d p i (Err stop) (with_kind p Values q) before after) (sym is) (refuses, ap (with_kind p Values) same, still)
 
-  pub cells_rested : (r : Result Answer NoMemory) (new : Part Cells) (w : Waking ℕ) → IfOk r (λ answer. PartRests cells.registered old i (act_in old.hall i b) answer new) → IfOk r (λ answer. PartYields cells.registered old i (act_in old.hall i a) answer new w w)
-  cells_rested (Ok answer) new w rests = cells_did (Ok answer) new w w (yield_rests old i (act_in old.hall i b) answer new w rests)
-  cells_rested (Err z) new w rests = tt
-
--- the same of maps and groups
-table_rests : (old : Part Tables) (i : ℕ) (o : Outcome Tables) (answer : Answer) (new : Part Tables) (w : Waking ℕ) → PartRests tables.registered old i o answer new → PartYields tables.registered old i o answer new w w
-table_rests old i o answer new w rests = record {
-  replied = rests.replied;
-  moved = rests.moved;
-  woken = sym (append-nil w.wakers) ∙ ap (λ ws. w.wakers ++ ws) (sym rests.silent);
-  counted = omega (arith, rests.counted);
-}
-
-module _ (once : Bool) (old : Part Tables) (i : ℕ) (a b : KeyAction) (is : a ≡ b) where
-  pub tables_did : (r : Result Answer NoMemory) (new : Part Tables) (before after : Waking ℕ) → IfOk r (λ answer. PartYields tables.registered old i (key_act once old.hall i b) answer new before after) → IfOk r (λ answer. PartYields tables.registered old i (key_act once old.hall i a) answer new before after)
-  tables_did r new before after did = subst (λ x. IfOk r (λ answer. PartYields tables.registered old i (key_act once old.hall i x) answer new before after)) (sym is) did
-
-  pub tables_rested : (r : Result Answer NoMemory) (new : Part Tables) (w : Waking ℕ) → IfOk r (λ answer. PartRests tables.registered old i (key_act once old.hall i b) answer new) → IfOk r (λ answer. PartYields tables.registered old i (key_act once old.hall i a) answer new w w)
-  tables_rested (Ok answer) new w rests = tables_did (Ok answer) new w w (table_rests old i (key_act once old.hall i b) answer new w rests)
-  tables_rested (Err z) new w rests = tt
-
--- what means an action on one kind was played where the action was played on that kind
-module _ (o v : Part Cells) (m g : Part Tables) (i : ℕ) (d : Meaning) where
-  pub onces_played : (a : Action) (r : Result Answer NoMemory) (q : Part Cells) (before after : Waking ℕ) → d ≡ on_onces a → IfOk r (λ answer. PartYields cells.registered o i (act_in o.hall i a) answer q before after) → IfOk r (λ answer. PlaysBy d (parts o v m g) i answer (parts q v m g) before after)
-  onces_played a (Ok answer) q before after is yields = subst (λ d. PlaysBy d (parts o v m g) i answer (parts q v m g) before after) (sym is) (record { part = q; is = refl; yields = yields })
-  onces_played a (Err z) q before after is yields = tt
-
-  pub values_played : (a : Action) (r : Result Answer NoMemory) (q : Part Cells) (before after : Waking ℕ) → d ≡ on_values a → IfOk r (λ answer. PartYields cells.registered v i (act_in v.hall i a) answer q before after) → IfOk r (λ answer. PlaysBy d (parts o v m g) i answer (parts o q m g) before after)
-  values_played a (Ok answer) q before after is yields = subst (λ d. PlaysBy d (parts o v m g) i answer (parts o q m g) before after) (sym is) (record { part = q; is = refl; yields = yields })
-  values_played a (Err z) q before after is yields = tt
-
-  pub maps_played : (a : KeyAction) (r : Result Answer NoMemory) (q : Part Tables) (before after : Waking ℕ) → d ≡ on_maps a → IfOk r (λ answer. PartYields tables.registered m i (key_act false m.hall i a) answer q before after) → IfOk r (λ answer. PlaysBy d (parts o v m g) i answer (parts o v q g) before after)
-  maps_played a (Ok answer) q before after is yields = subst (λ d. PlaysBy d (parts o v m g) i answer (parts o v q g) before after) (sym is) (record { part = q; is = refl; yields = yields })
-  maps_played a (Err z) q before after is yields = tt
-
-  pub maps_told : (a : KeyAction) (answer : Answer) (q : Part Tables) (w : Waking ℕ) → d ≡ on_maps a → PartRests tables.registered m i (key_act false m.hall i a) answer q → PlaysBy d (parts o v m g) i answer (parts o v q g) w w
-  maps_told a answer q w is rests = subst (λ d. PlaysBy d (parts o v m g) i answer (parts o v q g) w w) (sym is) (record { part = q; is = refl; yields = table_rests m i (key_act false m.hall i a) answer q w rests })
-
-  pub groups_played : (a : KeyAction) (r : Result Answer NoMemory) (q : Part Tables) (before after : Waking ℕ) → d ≡ on_groups a → IfOk r (λ answer. PartYields tables.registered g i (key_act true g.hall i a) answer q before after) → IfOk r (λ answer. PlaysBy d (parts o v m g) i answer (parts o v m q) before after)
-  groups_played a (Ok answer) q before after is yields = subst (λ d. PlaysBy d (parts o v m g) i answer (parts o v m q) before after) (sym is) (record { part = q; is = refl; yields = yields })
-  groups_played a (Err z) q before after is yields = tt
+  pub tables_act : (k : TableKind) (a : KeyAction) (r : Result Answer Stop) (q : Part Tables) (before after : Waking ℕ) → d ≡ OfTables (record { kind = k; action = a }) → KeyActs (is_once k) (of_table_kind p k) i a r q before after → ActsBy d p i r (with_table_kind p k q) before after
+  tables_act Maps a (Ok answer) q before after is (none, yields) = subst (λ d. ActsBy d p i (Ok answer) (with_table_kind p Maps q) before after) (sym is) (none, record { part = q; is = refl; yields = yields })
+  tables_act Maps a (Err stop) q before after is (refuses, same, still) = subst (λ d. ActsBy d p i (Err stop) (with_table_kind p Maps q) before after) (sym is) (refuses, ap (with_table_kind p Maps) same, still)
+  tables_act Groups a (Ok answer) q before after is (none, yields) = subst (λ d. ActsBy d p i (Ok answer) (with_table_kind p Groups q) before after) (sym is) (none, record { part = q; is = refl; yields = yields })
+  tables_act Groups a (Err stop) q before after is (refuses, same, still) = subst (λ d. ActsBy d p i (Err stop) (with_table_kind p Groups q) before after) (sym is) (refuses, ap (with_table_kind p Groups) same, still)

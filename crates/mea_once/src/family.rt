@@ -140,11 +140,7 @@ impl Family<OnceModel> for OnceFamily {
         ready: &mut Ready<u64>,
     ) -> Result<Answer, Stop> {
         wakes_are_of_the_registered();
-        let meaning = meaning_of(event);
-        if let Some(stop) = self.kinds.cause(meaning) {
-            return Err(stop);
-        }
-        let answer = self.kinds.play(number, meaning, ready)?;
+        let answer = self.kinds.act(number, meaning_of(event), ready)?;
         self.next = number as u128 + 1;
         Ok(answer)
     }

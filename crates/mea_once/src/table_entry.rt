@@ -423,9 +423,7 @@ impl<C: TableCore> TableEntry<C> {
             × (self.new.rounds ≡ self.old.rounds) × (self.new.futures ≡ self.old.futures) }
     {
         self.core.discard(key);
-        if self.current.has(key) {
-            let _ = self.current.remove(key);
-        }
+        let _ = self.current.take(key);
     }
 }
 
