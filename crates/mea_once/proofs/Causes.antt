@@ -3,8 +3,8 @@ use Rattle.std.proofs.Common.{◌≡◌, ℕ, Bool, true, false, nat_lt, inl, in
 use Rattle.mea_family.specs.Causes.{borrowed_by}
 use Rattle.mea_family.specs.declared.stop.Stop.{Stop}
 use Rattle.mea_family.specs.declared.stop.Stop.TheVariants as stops
+use Rattle.mea_family.specs.Acts.{Refuses}
 use Rattle.mea_once_model.proofs.Acting.{is_known, not_borrowed}
-use Rattle.mea_once.specs.Acts.{Refuses}
 
 -- what is not known, and what something borrows
 pub unknown : (cause : Option Stop) (free : Type 0) → cause ≡ Some stops.Unknown → Refuses cause free stops.Unknown

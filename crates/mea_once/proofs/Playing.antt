@@ -2,6 +2,7 @@
 use Rattle.std.proofs.Common.{◌≡◌, ℕ, ◌+◌, ◌++◌, Bool, Option, Result, Ok, Err, refl, ap, sym, subst, ◌∙◌, arith, append-nil}
 use Rattle.mea_family.specs.declared.answer.Answer.{Answer}
 use Rattle.mea_family.specs.declared.stop.Stop.{Stop}
+use Rattle.mea_family.specs.Acts.{Acts, ActsQuietly}
 use Rattle.mea_family.specs.Family.{Outcome}
 use Rattle.mea_base.specs.Ready.{Waking}
 use Rattle.mea_family.specs.Play.{Part, PartYields}
@@ -15,7 +16,7 @@ use Rattle.mea_once_model.specs.KeyActions.{KeyAction, key_cause, key_act}
 use Rattle.mea_once_model.specs.OnceHall.{OnceHall, Kind, Onces, Values, TableKind, Maps, Groups, registered, is_once}
 use Rattle.mea_once_model.specs.Meaning.{Meaning, OfCells, OfTables, meaning_of, step, step_by}
 use Rattle.mea_once.specs.Halls.{Parts, hall_of, AreBelow, of_kind, with_kind, of_table_kind, with_table_kind, PlaysCells, PlaysTables, PlaysBy, IsFree, IsKeyFree}
-use Rattle.mea_once.specs.Acts.{Acts, ActsQuietly, CellActs, CellActsQuietly, KeyActs, KeyActsQuietly, ActsBy}
+use Rattle.mea_once.specs.Acts.{CellActs, CellActsQuietly, KeyActs, KeyActsQuietly, ActsBy}
 
 -- what makes no waker ready leaves those that are ready as they were
 quietly : {H : Type 0} (registered : H → ℕ) (cause : Option Stop) (free : Type 0) (old : Part H) (i : ℕ) (o : Outcome H) (r : Result Answer Stop) (new : Part H) (w : Waking ℕ) → ActsQuietly registered cause free old i o r new → Acts registered cause free old i o r new w w
