@@ -1,11 +1,11 @@
-use Rattle.std.proofs.Common.{Some, None, sym, ap, ◌∙◌}
+use Rattle.std.proofs.Common.{Some, None, refl, sym, ap, ◌∙◌}
 use Rattle.std.specs.Option.{option_copied}
 use Rattle.mea_once.proofs.Causes.{unknown}
 use Rattle.mea_once.proofs.TableEvents.{table_cause, site, rests, told}
 use Rattle.mea_once.proofs.key_part.KeyPart.tell.Goals as goal
 
 pub returns-in_default : goal.returns-in_default
-returns-in_default g c = (unknown _ _ (table_cause g.C.TableCore.is_once c.self.inside.tables c.self.inside.futures c.self.inside.next c.self.view_is c.args.o None (sym c.get.ensures ∙ ap option_copied c.in_default.is)), c.self.view_is)
+returns-in_default g c = (unknown _ _ (table_cause g.C.TableCore.is_once c.self.inside.tables c.self.inside.futures c.self.inside.next c.self.view_is c.args.o None (sym c.get.ensures ∙ ap option_copied c.in_default.is)), refl)
 
 pub invariant_of-self : goal.invariant_of-self
 invariant_of-self g c = rests g.C.TableCore.is_once (site g.C.TableCore.is_once c.self.inside.tables c.self.inside.futures c.self.inside.next c.self.view_is c.self.invariant c.requires c.ranges.number.fits)
