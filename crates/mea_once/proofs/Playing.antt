@@ -108,13 +108,19 @@ module _ (p p' : Parts) (before after : Waking ℕ) (next i : ℕ) (answer : Ans
 -- ---- what means an action on one kind was asked where the action was asked of that kind
 module _ (p : Parts) (i : ℕ) (d : Meaning) where
   pub cells_act : (k : Kind) (a : Action) (r : Result Answer Stop) (q : Part Cells) (before after : Waking ℕ) → d ≡ OfCells (record { kind = k; action = a }) → CellActs (of_kind p k) i a r q before after → ActsBy d p i r (with_kind p k q) before after
-  cells_act Onces a (Ok answer) q before after is (none, yields) = subst (λ d. ActsBy d p i (Ok answer) (with_kind p Onces q) before after) (sym is) (none, record { part = q; is = refl; yields = yields })
-  cells_act Onces a (Err stop) q before after is (refuses, same, still) = subst (λ d. ActsBy d p i (Err stop) (with_kind p Onces q) before after) (sym is) (refuses, ap (with_kind p Onces) same, still)
-  cells_act Values a (Ok answer) q before after is (none, yields) = subst (λ d. ActsBy d p i (Ok answer) (with_kind p Values q) before after) (sym is) (none, record { part = q; is = refl; yields = yields })
-  cells_act Values a (Err stop) q before after is (refuses, same, still) = subst (λ d. ActsBy d p i (Err stop) (with_kind p Values q) before after) (sym is) (refuses, ap (with_kind p Values) same, still)
+  cells_act k a r q before after is did = subst (λ d. ActsBy d p i r (with_kind p k q) before after) (sym is) (at k r did)
+    where
+      at : (k : Kind) (r : Result Answer Stop) → CellActs (of_kind p k) i a r q before after → ActsBy (OfCells (record { kind = k; action = a })) p i r (with_kind p k q) before after
+      at Onces (Ok answer) did = (did.0, record { part = q; is = refl; yields = did.1 })
+      at Onces (Err stop) did = (did.0, ap (with_kind p Onces) did.1, did.2)
+      at Values (Ok answer) did = (did.0, record { part = q; is = refl; yields = did.1 })
+      at Values (Err stop) did = (did.0, ap (with_kind p Values) did.1, did.2)
 
   pub tables_act : (k : TableKind) (a : KeyAction) (r : Result Answer Stop) (q : Part Tables) (before after : Waking ℕ) → d ≡ OfTables (record { kind = k; action = a }) → KeyActs (is_once k) (of_table_kind p k) i a r q before after → ActsBy d p i r (with_table_kind p k q) before after
-  tables_act Maps a (Ok answer) q before after is (none, yields) = subst (λ d. ActsBy d p i (Ok answer) (with_table_kind p Maps q) before after) (sym is) (none, record { part = q; is = refl; yields = yields })
-  tables_act Maps a (Err stop) q before after is (refuses, same, still) = subst (λ d. ActsBy d p i (Err stop) (with_table_kind p Maps q) before after) (sym is) (refuses, ap (with_table_kind p Maps) same, still)
-  tables_act Groups a (Ok answer) q before after is (none, yields) = subst (λ d. ActsBy d p i (Ok answer) (with_table_kind p Groups q) before after) (sym is) (none, record { part = q; is = refl; yields = yields })
-  tables_act Groups a (Err stop) q before after is (refuses, same, still) = subst (λ d. ActsBy d p i (Err stop) (with_table_kind p Groups q) before after) (sym is) (refuses, ap (with_table_kind p Groups) same, still)
+  tables_act k a r q before after is did = subst (λ d. ActsBy d p i r (with_table_kind p k q) before after) (sym is) (at k r did)
+    where
+      at : (k : TableKind) (r : Result Answer Stop) → KeyActs (is_once k) (of_table_kind p k) i a r q before after → ActsBy (OfTables (record { kind = k; action = a })) p i r (with_table_kind p k q) before after
+      at Maps (Ok answer) did = (did.0, record { part = q; is = refl; yields = did.1 })
+      at Maps (Err stop) did = (did.0, ap (with_table_kind p Maps) did.1, did.2)
+      at Groups (Ok answer) did = (did.0, record { part = q; is = refl; yields = did.1 })
+      at Groups (Err stop) did = (did.0, ap (with_table_kind p Groups) did.1, did.2)

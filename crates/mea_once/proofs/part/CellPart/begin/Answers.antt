@@ -20,6 +20,9 @@ invariant_of-self-in_default-insert g c = rw c.in_default-insert.ensures.err (un
 pub returns-in_default-insert : goal.returns-in_default-insert
 returns-in_default-insert g c = (lacking _ _ (begin_cause g.C.TurnCore.is_once c.self.inside.cells c.self.inside.futures c.self.inside.next c.self.view_is c.self.invariant c.args.o c.args.job (Some c.in-Some.entry.now) (sym c.get_mut.ensures.value ∙ ap option_copied_mut c.in-Some.is) ∙ ap if_borrowed (sym c.is_closed_to.ensures ∙ c.if-is_closed_to.false)) (λ no. no), rw c.in_default-insert.ensures.err (unchanged g.C.TurnCore.is_once (site g.C.TurnCore.is_once c.self.inside.cells c.self.inside.futures c.self.inside.next c.self.view_is c.self.invariant c.requires.next c.ranges.number.fits) c.args.o c.in-Some.entry.now (sym c.get_mut.ensures.value ∙ ap option_copied_mut c.in-Some.is)).1)
 
+pub begin-requires-clause-futures : goal.begin-requires-clause-futures
+begin-requires-clause-futures g c = (few_futures g.C.TurnCore.is_once (site g.C.TurnCore.is_once c.self.inside.cells c.self.inside.futures c.self.inside.next c.self.view_is c.self.invariant c.requires.next c.ranges.number.fits) c.args.o c.in-Some.entry.now (sym c.get_mut.ensures.value ∙ ap option_copied_mut c.in-Some.is)).0
+
 pub begin-requires-clause-alone : goal.begin-requires-clause-alone
 begin-requires-clause-alone g c = (few_futures g.C.TurnCore.is_once (site g.C.TurnCore.is_once c.self.inside.cells c.self.inside.futures c.self.inside.next c.self.view_is c.self.invariant c.requires.next c.ranges.number.fits) c.args.o c.in-Some.entry.now (sym c.get_mut.ensures.value ∙ ap option_copied_mut c.in-Some.is)).1
 
