@@ -1,5 +1,5 @@
 -- why an action is refused, and where it is not
-use Rattle.std.proofs.Common.{◌≡◌, ℕ, Bool, true, false, nat_lt, inl, inr, Option, Some, None, refl, if◌then◌else◌}
+use Rattle.std.proofs.Common.{◌≡◌, ℕ, Bool, true, nat_lt, inl, inr, Option, Some, None, refl, if◌then◌else◌}
 use Rattle.mea_family.specs.Causes.{borrowed_by}
 use Rattle.mea_family.specs.declared.stop.Stop.{Stop}
 use Rattle.mea_family.specs.declared.stop.Stop.TheVariants as stops

@@ -1,5 +1,5 @@
 -- what each event does to the cells of one kind, as they are kept and as they are seen
-use Rattle.std.proofs.Common.{◌≡◌, ℕ, ◌+◌, ◌-◌, ◌<◌, ◌≤◌, ◌^◌, ◌==◌, ◌++◌, Bool, true, false, cond, length, List, [], ◌∷◌, Option, Some, None, option_map, is_some, nat_lt, refl, ap, sym, subst, ◌∙◌, arith, append-nil, if◌then◌else◌}
+use Rattle.std.proofs.Common.{◌≡◌, ℕ, ◌+◌, ◌-◌, ◌<◌, ◌≤◌, ◌^◌, ◌==◌, ◌++◌, Bool, true, false, cond, length, List, [], ◌∷◌, Option, Some, None, option_map, is_some, refl, ap, sym, subst, ◌∙◌, arith, append-nil, if◌then◌else◌}
 use Rattle.std.specs.Option.{IsSome}
 use Rattle.std.specs.FinMap.{get, insert, remove, len, empty, len-empty}
 use Rattle.std.specs.Ordering.{nat_cmp}
@@ -114,13 +114,13 @@ module _ (once : Bool) {old : Part Cells} (es : Names KeptCell) (fs : Names Futu
     borrowed_is m n so None is = ap (λ k. borrowed_by k m) (sym (cell_of o None is))
     borrowed_is m n so (Some e) is = ap (λ k. borrowed_by k m) (sym (cell_of o (Some e) is)) ∙ ap (borrowed_by true) (so e is)
 
-    pub use_cause : (p : Option KeptCell) → get es o ≡ p → borrowed_by (is_cell old.hall o) (alone_of old.hall o) ≡ borrowed_at (λ e. e.alone) p
+    pub use_cause : (p : Option KeptCell) → get es o ≡ p → borrowed_by (is_cell old.hall o) (alone_of old.hall o) ≡ borrowed_at (λ (e : KeptCell). e.alone) p
     use_cause = borrowed_is (alone_of old.hall o) (λ e. e.alone) (alone_are kept o)
 
-    pub whole_cause : (p : Option KeptCell) → get es o ≡ p → borrowed_by (is_cell old.hall o) (futures_of old.hall o) ≡ borrowed_at (λ e. e.futures) p
+    pub whole_cause : (p : Option KeptCell) → get es o ≡ p → borrowed_by (is_cell old.hall o) (futures_of old.hall o) ≡ borrowed_at (λ (e : KeptCell). e.futures) p
     whole_cause = borrowed_is (futures_of old.hall o) (λ e. e.futures) (futures_are kept o)
 
-    pub begin_cause : (job : Job) (p : Option KeptCell) → get es o ≡ p → borrowed_by (is_cell old.hall o) (in_the_way old.hall o job) ≡ borrowed_at (λ e. if is_alone job then e.futures else e.alone) p
+    pub begin_cause : (job : Job) (p : Option KeptCell) → get es o ≡ p → borrowed_by (is_cell old.hall o) (in_the_way old.hall o job) ≡ borrowed_at (λ (e : KeptCell). if is_alone job then e.futures else e.alone) p
     begin_cause job = borrowed_is (in_the_way old.hall o job) (λ e. if is_alone job then e.futures else e.alone) (λ e is. so (is_alone job) e is)
       where
         so : (b : Bool) (e : KeptCell) → get es o ≡ Some e → (if b then futures_of old.hall o else alone_of old.hall o) ≡ (if b then e.futures else e.alone)
