@@ -15,7 +15,7 @@ use Rattle.mea_once_model.specs.Actions.{Action, cause_in, act_in}
 use Rattle.mea_once_model.specs.KeyActions.{KeyAction, key_cause, key_act}
 use Rattle.mea_once_model.specs.OnceHall.{OnceHall, Kind, Onces, Values, TableKind, Maps, Groups, registered, is_once}
 use Rattle.mea_once_model.specs.Meaning.{Meaning, OfCells, OfTables, meaning_of, step, step_by}
-use Rattle.mea_once.specs.Halls.{Parts, hall_of, AreBelow, of_kind, with_kind, of_table_kind, with_table_kind, PlaysCells, PlaysTables, PlaysBy, IsFree, IsKeyFree}
+use Rattle.mea_once.specs.Halls.{Parts, hall_of, of_kind, with_kind, of_table_kind, with_table_kind, PlaysCells, PlaysTables, PlaysBy, IsFree, IsKeyFree}
 use Rattle.mea_once.specs.Acts.{CellActs, CellActsQuietly, KeyActs, KeyActsQuietly, ActsBy}
 
 -- what makes no waker ready leaves those that are ready as they were
@@ -34,68 +34,41 @@ cells_rest old i a r new w = quietly cells.registered (cause_in old.hall a) (IsF
 pub tables_rest : (once : Bool) (old : Part Tables) (i : ℕ) (a : KeyAction) (r : Result Answer Stop) (new : Part Tables) (w : Waking ℕ) → KeyActsQuietly once old i a r new → KeyActs once old i a r new w w
 tables_rest once old i a r new w = quietly tables.registered (key_cause old.hall a) (IsKeyFree a) old i (key_act once old.hall i a) r new w
 
-module _ (p p' : Parts) (before after : Waking ℕ) (next i : ℕ) (answer : Answer) (held : AreBelow p i) where
-  -- what an event leaves: next numbers that are below the next one, and the registered wakers counted
-  record Leaves (q : Parts) : Type 0 where
-    pub below : AreBelow q (i + 1)
-    pub counted : after.registered + registered (hall_of p) ≡ before.registered + registered (hall_of q)
+module _ (p p' : Parts) (before after : Waking ℕ) (next i : ℕ) (answer : Answer) where
+  -- the registered wakers are counted, where an event leaves this
+  abbrev Counted : Parts → Type 0
+  Counted q = after.registered + registered (hall_of p) ≡ before.registered + registered (hall_of q)
 
-  cells_leave : (k : Kind) (a : Action) → PlaysCells p k i a answer p' before after → Leaves p'
-  cells_leave Onces a one =
+  cells_counted : (k : Kind) (a : Action) → PlaysCells p k i a answer p' before after → Counted p'
+  cells_counted Onces a one =
       let hall : cells.registered one.part.hall ≡ cells.registered (act_in p.onces.hall i a).hall = ap (λ (q : Part Cells). cells.registered q.hall) one.yields.moved in
-      let next_is : one.part.next ≡ i + 1 = ap (λ (q : Part Cells). q.next) one.yields.moved in
-      subst Leaves (sym one.is) (record {
-        below = record { onces = omega (arith, next_is); values = omega (arith, held.values); maps = omega (arith, held.maps); groups = omega (arith, held.groups) };
-        counted = omega (arith, hall, one.yields.counted);
-      })
-  cells_leave Values a one =
+      subst Counted (sym one.is) (omega (arith, hall, one.yields.counted))
+  cells_counted Values a one =
       let hall : cells.registered one.part.hall ≡ cells.registered (act_in p.values.hall i a).hall = ap (λ (q : Part Cells). cells.registered q.hall) one.yields.moved in
-      let next_is : one.part.next ≡ i + 1 = ap (λ (q : Part Cells). q.next) one.yields.moved in
-      subst Leaves (sym one.is) (record {
-        below = record { onces = omega (arith, held.onces); values = omega (arith, next_is); maps = omega (arith, held.maps); groups = omega (arith, held.groups) };
-        counted = omega (arith, hall, one.yields.counted);
-      })
+      subst Counted (sym one.is) (omega (arith, hall, one.yields.counted))
 
-  tables_leave : (k : TableKind) (a : KeyAction) → PlaysTables p k i a answer p' before after → Leaves p'
-  tables_leave Maps a one =
+  tables_counted : (k : TableKind) (a : KeyAction) → PlaysTables p k i a answer p' before after → Counted p'
+  tables_counted Maps a one =
       let hall = ap (λ (q : Part Tables). tables.registered q.hall) one.yields.moved in
-      let next_is : one.part.next ≡ i + 1 = ap (λ (q : Part Tables). q.next) one.yields.moved in
-      subst Leaves (sym one.is) (record {
-        below = record { onces = omega (arith, held.onces); values = omega (arith, held.values); maps = omega (arith, next_is); groups = omega (arith, held.groups) };
-        counted = omega (arith, hall, one.yields.counted);
-      })
-  tables_leave Groups a one =
+      subst Counted (sym one.is) (omega (arith, hall, one.yields.counted))
+  tables_counted Groups a one =
       let hall = ap (λ (q : Part Tables). tables.registered q.hall) one.yields.moved in
-      let next_is : one.part.next ≡ i + 1 = ap (λ (q : Part Tables). q.next) one.yields.moved in
-      subst Leaves (sym one.is) (record {
-        below = record { onces = omega (arith, held.onces); values = omega (arith, held.values); maps = omega (arith, held.maps); groups = omega (arith, next_is) };
-        counted = omega (arith, hall, one.yields.counted);
-      })
-
-  leaves_by : (m : Meaning) → PlaysBy m p i answer p' before after → Leaves p'
-  leaves_by (OfCells d) one = cells_leave d.kind d.action one
-  leaves_by (OfTables d) one = tables_leave d.kind d.action one
-
-  pub below_after : (m : Meaning) → PlaysBy m p i answer p' before after → AreBelow p' (i + 1)
-  below_after m plays = (leaves_by m plays).below
+      subst Counted (sym one.is) (omega (arith, hall, one.yields.counted))
 
   abbrev Yielding : Outcome OnceHall → Type 0
   Yielding o = PartYields registered (record { hall = hall_of p; next = next }) i o answer (record { hall = hall_of p'; next = i + 1 }) before after
 
-  counting : {h : OnceHall} → Leaves p' → hall_of p' ≡ h → after.registered + registered (hall_of p) ≡ before.registered + registered h
-  counting left is = left.counted ∙ ap (λ h. before.registered + registered h) is
-
   -- the same hall in other words: what it replied, what it left, and the wakers that it made ready
-  yielding : {o : Outcome OnceHall} → answer ≡ o.reply → hall_of p' ≡ o.hall → after.wakers ≡ before.wakers ++ o.wakes → Leaves p' → Yielding o
-  yielding replied hall woken left = record { replied = replied; moved = ap (λ h. record { hall = h; next = i + 1 }) hall; woken = woken; counted = counting left hall }
+  yielding : {o : Outcome OnceHall} → answer ≡ o.reply → hall_of p' ≡ o.hall → after.wakers ≡ before.wakers ++ o.wakes → Counted p' → Yielding o
+  yielding replied hall woken counted = record { replied = replied; moved = ap (λ h. record { hall = h; next = i + 1 }) hall; woken = woken; counted = counted ∙ ap (λ h. before.registered + registered h) hall }
 
   cells_yield : (k : Kind) (a : Action) → PlaysCells p k i a answer p' before after → Yielding (step_by (hall_of p) i (OfCells (record { kind = k; action = a })))
-  cells_yield Onces a one = yielding one.yields.replied (ap hall_of one.is ∙ (λ j. hall_of (record p { onces = one.yields.moved j }))) one.yields.woken (cells_leave Onces a one)
-  cells_yield Values a one = yielding one.yields.replied (ap hall_of one.is ∙ (λ j. hall_of (record p { values = one.yields.moved j }))) one.yields.woken (cells_leave Values a one)
+  cells_yield Onces a one = yielding one.yields.replied (ap hall_of one.is ∙ (λ j. hall_of (record p { onces = one.yields.moved j }))) one.yields.woken (cells_counted Onces a one)
+  cells_yield Values a one = yielding one.yields.replied (ap hall_of one.is ∙ (λ j. hall_of (record p { values = one.yields.moved j }))) one.yields.woken (cells_counted Values a one)
 
   tables_yield : (k : TableKind) (a : KeyAction) → PlaysTables p k i a answer p' before after → Yielding (step_by (hall_of p) i (OfTables (record { kind = k; action = a })))
-  tables_yield Maps a one = yielding one.yields.replied (ap hall_of one.is ∙ (λ j. hall_of (record p { maps = one.yields.moved j }))) one.yields.woken (tables_leave Maps a one)
-  tables_yield Groups a one = yielding one.yields.replied (ap hall_of one.is ∙ (λ j. hall_of (record p { groups = one.yields.moved j }))) one.yields.woken (tables_leave Groups a one)
+  tables_yield Maps a one = yielding one.yields.replied (ap hall_of one.is ∙ (λ j. hall_of (record p { maps = one.yields.moved j }))) one.yields.woken (tables_counted Maps a one)
+  tables_yield Groups a one = yielding one.yields.replied (ap hall_of one.is ∙ (λ j. hall_of (record p { groups = one.yields.moved j }))) one.yields.woken (tables_counted Groups a one)
 
   yields_by : (m : Meaning) → PlaysBy m p i answer p' before after → Yielding (step_by (hall_of p) i m)
   yields_by (OfCells d) one = cells_yield d.kind d.action one

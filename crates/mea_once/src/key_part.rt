@@ -22,8 +22,8 @@ use mea_once_model::Initialiser;
 use std::alloc::Global;
 use std::marker::Model;
 
-/// Maps, or groups, with their futures, each by the number of the event that made it. Each call costs a look-up by name, one
-/// by key, and what its core costs.
+/// Maps, or groups, with their futures, each by the number of the event that made it. Each call costs a few look-ups by name
+/// and by key, and what its core costs.
 #[derive(Drop)]
 pub struct KeyPart<C: TableCore> {
     tables: ByName<TableEntry<C>>,

@@ -23,8 +23,8 @@ use mea_once_model::{Initialiser, Job};
 use std::alloc::Global;
 use std::marker::Model;
 
-/// The cells of one kind with their futures, each by the number of the event that made it. Each call costs a look-up by name
-/// and the wakers that it makes ready.
+/// The cells of one kind with their futures, each by the number of the event that made it. Each call costs a few look-ups
+/// by name and the wakers that it makes ready.
 #[derive(Drop)]
 pub struct CellPart<C: TurnCore> {
     cells: ByName<CellEntry<C>>,
