@@ -20,12 +20,15 @@ use Rattle.mea_once.specs.Acts.{CellActs, CellActsQuietly, KeyActs, KeyActsQuiet
 
 -- what makes no waker ready leaves those that are ready as they were
 quietly : {H : Type 0} (registered : H → ℕ) (cause : Option Stop) (free : Type 0) (old : Part H) (i : ℕ) (o : Outcome H) (r : Result Answer Stop) (new : Part H) (w : Waking ℕ) → ActsQuietly registered cause free old i o r new → Acts registered cause free old i o r new w w
-quietly registered cause free old i o (Ok answer) new w (none, rests) = (none, record {
-  replied = rests.replied;
-  moved = rests.moved;
-  woken = sym (append-nil w.wakers) ∙ ap (λ ws. w.wakers ++ ws) (sym rests.silent);
-  counted = omega (arith, rests.counted);
-})
+quietly registered cause free old i o (Ok answer) new w (none, rests) = (
+  none,
+  record {
+    replied = rests.replied;
+    moved = rests.moved;
+    woken = sym (append-nil w.wakers) ∙ ap (λ ws. w.wakers ++ ws) (sym rests.silent);
+    counted = omega (arith, rests.counted);
+  },
+)
 quietly registered cause free old i o (Err stop) new w (refuses, same) = (refuses, same, refl)
 
 pub cells_rest : (old : Part Cells) (i : ℕ) (a : Action) (r : Result Answer Stop) (new : Part Cells) (w : Waking ℕ) → CellActsQuietly old i a r new → CellActs old i a r new w w

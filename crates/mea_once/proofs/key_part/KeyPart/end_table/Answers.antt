@@ -1,7 +1,10 @@
-use Rattle.std.proofs.Common.{sym, ◌∙◌}
-use Rattle.mea_once.proofs.Causes.{borrowed_none}
+use Rattle.std.proofs.Common.{refl, sym, ◌∙◌}
+use Rattle.mea_once.proofs.Causes.{as_told, borrowed_none}
 use Rattle.mea_once.proofs.TableEvents.{site, table_there, goes_kept, dropped}
 use Rattle.mea_once.proofs.key_part.KeyPart.end_table.Goals as goal
+
+pub returns-in-Some : goal.returns-in-Some
+returns-in-Some g c = (as_told _ _ _ _ c.cause_of_drop.ensures.is c.cause_of_drop.ensures.tells c.in-Some.is, refl)
 
 pub remove-requires : goal.remove-requires
 remove-requires g c = table_there g.C.TableCore.is_once (site g.C.TableCore.is_once c.self.inside.tables c.self.inside.futures c.self.inside.next c.self.view_is c.self.invariant c.requires c.ranges.number.fits) c.args.o (borrowed_none _ _ (sym c.cause_of_drop.ensures.is ∙ c.in_default.is)).0

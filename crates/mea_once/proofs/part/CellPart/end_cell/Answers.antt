@@ -1,7 +1,10 @@
-use Rattle.std.proofs.Common.{sym, ◌∙◌}
-use Rattle.mea_once.proofs.Causes.{borrowed_none}
+use Rattle.std.proofs.Common.{refl, sym, ◌∙◌}
+use Rattle.mea_once.proofs.Causes.{as_told, borrowed_none}
 use Rattle.mea_once.proofs.PartEvents.{site, cell_there, its_room, goes_kept, dropped}
 use Rattle.mea_once.proofs.part.CellPart.end_cell.Goals as goal
+
+pub returns-in-Some : goal.returns-in-Some
+returns-in-Some g c = (as_told _ _ _ _ c.cause_of_whole.ensures.is c.cause_of_whole.ensures.tells c.in-Some.is, refl, refl)
 
 pub remove-entry-requires : goal.remove-entry-requires
 remove-entry-requires g c = cell_there g.C.TurnCore.is_once (site g.C.TurnCore.is_once c.self.inside.cells c.self.inside.futures c.self.inside.next c.self.view_is c.self.invariant c.requires.next c.ranges.number.fits) c.args.o (borrowed_none _ _ (sym c.cause_of_whole.ensures.is ∙ c.in_default.is)).0
