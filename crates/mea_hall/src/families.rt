@@ -12,7 +12,7 @@ use mea_meet::MeetFamily;
 use mea_meet_model::validity_is_kept;
 use mea_once::OnceFamily;
 use mea_sem::SemFamily;
-use mea_share::SharePart;
+use mea_share::ShareFamily;
 use std::alloc::Global;
 
 /// All families of primitives. An event of one leaves the others as they are.
@@ -22,7 +22,7 @@ pub struct Families {
     pub meets: MeetFamily,
     pub locks: LockFamily,
     pub chans: ChanFamily,
-    pub shares: SharePart,
+    pub shares: ShareFamily,
     pub onces: OnceFamily,
 }
 
@@ -37,7 +37,7 @@ impl Families {
             meets: MeetFamily::new(alloc),
             locks: LockFamily::new(alloc),
             chans: ChanFamily::new(alloc),
-            shares: SharePart::new(alloc),
+            shares: ShareFamily::new(alloc),
             onces: OnceFamily::new(alloc),
         }
     }
@@ -92,7 +92,7 @@ impl Families {
             Event::Meet(event) => self.meets.act(number, event, ready),
             Event::Lock(event) => self.locks.act(number, event, ready),
             Event::Chan(event) => self.chans.act(number, event, ready),
-            Event::Share(event) => Family::act(&mut self.shares, number, event, ready),
+            Event::Share(event) => self.shares.act(number, event, ready),
             Event::Once(event) => self.onces.act(number, event, ready),
         }
     }

@@ -10,7 +10,7 @@ use mea_lock::LockFamily;
 use mea_meet::MeetFamily;
 use mea_once::OnceFamily;
 use mea_sem::SemFamily;
-use mea_share::SharePart;
+use mea_share::ShareFamily;
 use std::alloc::Global;
 use std::marker::Model;
 
@@ -136,7 +136,7 @@ impl Hall {
     }
 
     /// The fair admissions. It takes no memory.
-    pub fn shares(&self) -> &SharePart
+    pub fn shares(&self) -> &ShareFamily
         ensures { result.now.hall ≡ self.now.world.shares }
     {
         &self.families.shares

@@ -12,7 +12,7 @@ use Rattle.mea_sem_core.specs.Core.{Waiter, Acquires, Owes, Core, paid_to, paid_
 use Rattle.mea_sem_core.specs.Calls as calls
 use Rattle.mea_sem_core.specs.Calls.{without_acquire, given_back}
 use Rattle.mea_sem_core.specs.Ones.{AskForOne}
-use Rattle.mea_sem_core.proofs.Ones.{ones_debts, ones_left, ones_granted, take_none}
+use Rattle.mea_sem_core.proofs.Ones.{ones_debts, ones_left, ones_granted, take_none, poured_nothing}
 use Rattle.mea_lock_core.specs.Condvar.{waker_under, with_waker, without_wait}
 use Rattle.mea_pool_core.specs.Places.{leases_of, cutting}
 

@@ -1,5 +1,8 @@
-ghost use Rattle.std.specs.Prelude.{◌≡◌, ◌≤◌};
+ghost use Rattle.std.specs.Prelude.{◌≡◌, ◌≤◌, is_some, IfSome};
+ghost use Rattle.mea_share_model.specs.Admissions.{is_named};
+ghost use Rattle.mea_share.specs.Lends.{StandsFor};
 
+use crate::admission_entry::Core;
 use crate::part::SharePart;
 use mea_base::Ready;
 use mea_events::ShareEvent;
@@ -23,13 +26,40 @@ impl Model for ShareModel {
     ghost view = { λ _. model.empty_hall };
 }
 
+/// Many fair admissions with the wakers that they have made ready.
+pub type ShareHall = FamilyHall<ShareFamily, ShareModel>;
+
 /// Many fair admissions with their futures and permits, each by the number of the event that made it.
 ///
 /// Each admission is a core of its own; a future keeps its acquire. Each event costs a look-up by name, one by key, and what
 /// its core costs: a logarithm of its keys where one is admitted.
-pub type ShareHall = FamilyHall<SharePart, ShareModel>;
+#[derive(Drop)]
+pub struct ShareFamily {
+    admissions: SharePart,
+}
 
-impl Family<ShareModel> for SharePart {
+impl Model for ShareFamily {
+    ghost use Rattle.mea_family.specs.Play.{Part, part_code};
+    ghost use Rattle.mea_share_model.specs.Admissions.{ShareHall, hall_code};
+
+    ghost Value = { Part ShareHall };
+
+    ghost coded = { part_code hall_code };
+
+    ghost view = { λ f. f.admissions };
+}
+
+impl ShareFamily {
+    /// The core of the admission of this name, where it is still named. It takes no memory.
+    pub fn fair(&self, o: u64) -> Option<&Core>
+        ensures named { is_some result ≡ is_named self.now.hall o }
+        ensures stands { IfSome result (λ core. StandsFor self.now.hall o core.now) }
+    {
+        self.admissions.fair(o)
+    }
+}
+
+impl Family<ShareModel> for ShareFamily {
     ghost use Rattle.mea_share_model.specs.Admissions as model;
     ghost use Rattle.mea_share_model.specs.Meaning as meaning;
     ghost use Rattle.mea_share_model.specs.Valid.{AreValid};
@@ -53,15 +83,17 @@ impl Family<ShareModel> for SharePart {
     ghost TakesNoMemory = { λ e. halls.TakesNoMemory e };
 
     fn new(alloc: Global) -> Self {
-        SharePart::new(alloc)
+        ShareFamily {
+            admissions: SharePart::new(alloc),
+        }
     }
 
     fn is_valid(&self) {
-        SharePart::is_valid(self)
+        self.admissions.is_valid();
     }
 
     fn cause(&self, event: &ShareEvent) -> Option<Stop> {
-        SharePart::cause(self, event)
+        self.admissions.cause(event)
     }
 
     fn act(
@@ -71,6 +103,6 @@ impl Family<ShareModel> for SharePart {
         ready: &mut Ready<u64>,
     ) -> Result<Answer, Stop> {
         wakes_are_of_the_registered();
-        SharePart::act(self, number, event, ready)
+        self.admissions.act(number, event, ready)
     }
 }

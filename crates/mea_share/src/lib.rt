@@ -8,7 +8,6 @@ mod part;
 mod permit_entry;
 
 pub use admission_entry::{AdmissionEntry, Core};
-pub use family::{ShareHall, ShareModel};
+pub use family::{ShareFamily, ShareHall, ShareModel};
 pub use future_entry::FutureEntry;
-pub use part::SharePart;
 pub use permit_entry::PermitEntry;

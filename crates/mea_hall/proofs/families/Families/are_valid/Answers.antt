@@ -10,7 +10,7 @@ returns c = λ n low.
       meets = c.validity_is_kept.ensures.later meets.hall meets.next n c.is_valid-2.ensures low.meets;
       locks = c.is_valid-3.ensures;
       chans = c.is_valid-4.ensures;
-      shares = c.is_valid-5.ensures.valid;
-      settled = c.is_valid-5.ensures.settled;
+      shares = c.is_valid-5.ensures.0;
+      settled = c.is_valid-5.ensures.1;
       onces = valid_later onces.next n low.onces onces.hall c.is_valid-6.ensures;
     }

@@ -7,7 +7,7 @@ returns-clause-empty c = λ i. record {
   meets = (c.new-2.ensures.empty i).hall;
   locks = (c.new-3.ensures.empty i).hall;
   chans = (c.new-4.ensures.empty i).hall;
-  shares = (c.new-5.ensures i).hall;
+  shares = (c.new-5.ensures.empty i).hall;
   onces = (c.new-6.ensures.empty i).hall;
 }
 
@@ -17,6 +17,6 @@ returns-clause-below c = record {
   meets = omega (arith, ap (λ p. p.next) c.new-2.ensures.empty);
   locks = omega (arith, ap (λ p. p.next) c.new-3.ensures.empty);
   chans = omega (arith, ap (λ p. p.next) c.new-4.ensures.empty);
-  shares = omega (arith, ap (λ p. p.next) c.new-5.ensures);
+  shares = omega (arith, ap (λ p. p.next) c.new-5.ensures.empty);
   onces = omega (arith, ap (λ p. p.next) c.new-6.ensures.empty);
 }
