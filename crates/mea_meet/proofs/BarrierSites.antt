@@ -10,7 +10,7 @@ use Rattle.mea_base.specs.Totals.{total, weight}
 use Rattle.mea_base.proofs.Totals.{total-insert, total-remove, total-same}
 use Rattle.mea_base.proofs.Maps.{by_put, by_gone, total-has, nothing_at, inside, removed_there}
 use Rattle.mea_base.proofs.NamedMaps.{is_some-map, get-seen}
-use Rattle.mea_family.specs.Causes.{borrowed_by}
+use Rattle.mea_family.specs.Causes.{unknown_unless, borrowed_by}
 use Rattle.mea_family.specs.Family.{Outcome, quietly}
 use Rattle.mea_family.specs.Play.{Part, PartYields, PartRests}
 use Rattle.mea_family.specs.declared.answer.Answer.{Answer}
@@ -20,7 +20,7 @@ use Rattle.mea_by_name.specs.declared.named_waker.NamedWaker.{NamedWaker}
 use Rattle.mea_by_name.specs.ByName.{Names, seen, own}
 use Rattle.mea_by_name.specs.NamedQueue.{registering}
 use Rattle.mea_by_name.proofs.Cases.{found_is, if_true, if_false}
-use Rattle.mea_by_name.proofs.Own.{Moves, Comes, Goes, moves_elsewhere, seen-at, seen-empty, seen-insert, seen-remove, seen-alike, own-at, own-none, own-put, own-gone, own-empty, own-seen, insert_same, len-new, len-over, len-gone, len-some, len-seen, total-seen, seen-none_back, seen-some_back}
+use Rattle.mea_by_name.proofs.Own.{Moves, Comes, Goes, moves_elsewhere, seen-at, seen-empty, seen-insert, seen-remove, seen-alike, own-at, own-none, own-put, own-gone, own-empty, own-seen, insert_same, gone_none, len-new, len-over, len-gone, len-some, len-seen, total-seen, seen-none_back, seen-some_back}
 use Rattle.mea_sets.specs.declared.place.Place.{Place}
 use Rattle.mea_sets.specs.Poll.{Poll, Ready, Pending}
 use Rattle.mea_sets.specs.WaitSet.{has_given, with_waker, slot_after}
@@ -32,7 +32,7 @@ use Rattle.mea_meet_core.specs.declared.barrier_fault.BarrierFault.{BarrierFault
 use Rattle.mea_meet_core.specs.declared.barrier_wait.BarrierWait.{BarrierWait as Wait}
 use Rattle.mea_meet_core.specs.declared.barrier_wait.BarrierWait.TheVariants.{New, Arrived, Done}
 use Rattle.mea_meet_model.specs.Barriers as model
-use Rattle.mea_meet_model.specs.Barriers.{Barriers, Barrier, BarrierWait, no_barriers, new_barrier, is_barrier, is_wait, waits_of, registered, leads, has_completed}
+use Rattle.mea_meet_model.specs.Barriers.{Barriers, Barrier, no_barriers, is_barrier, is_wait, waits_of, registered, leads, has_completed}
 use Rattle.mea_meet_model.specs.BarrierActions.{BarrierAction, Make, Begin, Poll as PollIt, End, Drop, cause_at, act_at}
 use Rattle.mea_meet_model.specs.Valid.{HasBarriers, IsBarrier}
 use Rattle.mea_meet_model.proofs.BarriersKept.{barriers_empty, keeps}
@@ -121,6 +121,17 @@ module _ (e : BarrierEntry) (ws : Names BarrierWaitEntry) (n i : ℕ) (a : AreKe
         few = let few = a.few in omega (arith, few, later);
       }
 
+-- ---- what is seen at a name
+module _ (bs : Names BarrierEntry) (ws : Names BarrierWaitEntry) (next : ℕ) {old : Part Barriers} (view : ◌≡◌ {A = Part Barriers} (record { hall = barriers_seen bs ws; next = next }) old) where
+  pub barrier_is : (b : ℕ) (p : Option BarrierEntry) → get bs b ≡ p → option_map barrier_seen p ≡ get old.hall.barriers b
+  barrier_is b p is = ap (option_map barrier_seen) (sym is) ∙ sym (get-seen (λ k e. barrier_seen e) bs b) ∙ ap (λ (p : Part Barriers). get p.hall.barriers b) view
+
+  pub is_barrier_is : (b : ℕ) → is_some (get bs b) ≡ is_barrier old.hall b
+  is_barrier_is b = sym (is_some-map barrier_seen (get bs b)) ∙ ap is_some (barrier_is b (get bs b) refl)
+
+  pub is_wait_is : (f : ℕ) → is_some (get ws f) ≡ is_wait old.hall f
+  is_wait_is f = sym (is_some-map wait_seen (get ws f)) ∙ ap is_some (sym (get-seen (λ k y. wait_seen y) ws f)) ∙ ap (λ (p : Part Barriers). is_wait p.hall f) view
+
 -- ---- the barriers before event number i
 pub record Site (old : Part Barriers) (i : ℕ) : Type 0 where
   pub bs : Names BarrierEntry
@@ -147,10 +158,10 @@ module _ {old : Part Barriers} {i : ℕ} (s : Site old i) where
   in_view P is = subst (λ (p : Part Barriers). P p.hall) (sym s.view) is
 
   abbrev Rests : BarrierAction → Answer → Names BarrierEntry → Names BarrierWaitEntry → Type 0
-  Rests a answer bs ws = AreKeptBarriers bs ws (i + 1) × PartRests registered old i (act_at old.hall i a) answer (part_of bs ws (i + 1))
+  Rests a answer bs ws = AreKeptBarriers bs ws (i + 1) × ((cause_at old.hall a ≡ None) × PartRests registered old i (act_at old.hall i a) answer (part_of bs ws (i + 1)))
 
   abbrev Yields : BarrierAction → Answer → Names BarrierEntry → Names BarrierWaitEntry → Waking ℕ → Waking ℕ → Type 0
-  Yields a answer bs ws before after = AreKeptBarriers bs ws (i + 1) × PartYields registered old i (act_at old.hall i a) answer (part_of bs ws (i + 1)) before after
+  Yields a answer bs ws before after = AreKeptBarriers bs ws (i + 1) × ((cause_at old.hall a ≡ None) × PartYields registered old i (act_at old.hall i a) answer (part_of bs ws (i + 1)) before after)
 
   -- ---- the new maps stand for what the event leaves
   module _ (a : BarrierAction) (out : Outcome Barriers) (is : act_at here i a ≡ out) (allowed : cause_at old.hall a ≡ None) (answer : Answer) (replied : answer ≡ out.reply) (bs' : Names BarrierEntry) (ws' : Names BarrierWaitEntry)
@@ -170,21 +181,18 @@ module _ {old : Part Barriers} {i : ℕ} (s : Site old i) where
     rests_as : out.wakes ≡ [] → kept_in bs' ≡ kept_in s.bs → Rests a answer bs' ws'
     rests_as silent waiting = (
       keeps_as,
-      subst (λ p. PartRests registered p i (act_at p.hall i a) answer (part_of bs' ws' (i + 1))) s.view (rw is (record { replied = replied; moved = λ j. record { hall = same j; next = i + 1 }; silent = silent; counted = after_is ∙ waiting ∙ sym before_is })),
+      (allowed, subst (λ p. PartRests registered p i (act_at p.hall i a) answer (part_of bs' ws' (i + 1))) s.view (rw is (record { replied = replied; moved = λ j. record { hall = same j; next = i + 1 }; silent = silent; counted = after_is ∙ waiting ∙ sym before_is }))),
     )
 
     yields_as : (before after : Waking ℕ) → after.wakers ≡ before.wakers ++ out.wakes → after.registered + kept_in s.bs ≡ before.registered + kept_in bs' → Yields a answer bs' ws' before after
     yields_as before after woken waiting = (
       keeps_as,
-      subst (λ p. PartYields registered p i (act_at p.hall i a) answer (part_of bs' ws' (i + 1)) before after) s.view (rw is (record { replied = replied; moved = λ j. record { hall = same j; next = i + 1 }; woken = woken; counted = omega (arith, waiting, before_is, after_is) })),
+      (allowed, subst (λ p. PartYields registered p i (act_at p.hall i a) answer (part_of bs' ws' (i + 1)) before after) s.view (rw is (record { replied = replied; moved = λ j. record { hall = same j; next = i + 1 }; woken = woken; counted = omega (arith, waiting, before_is, after_is) }))),
     )
 
   -- ---- what is there
   pub barrier_there : (b : ℕ) → is_barrier old.hall b ≡ true → IsSome (get s.bs b)
   barrier_there b is = seen-some_back barrier_seen s.bs b (in_view (λ h. is_barrier h b ≡ true) is)
-
-  pub wait_there : (f : ℕ) → is_wait old.hall f ≡ true → IsSome (get s.ws f)
-  wait_there f is = seen-some_back wait_seen s.ws f (in_view (λ h. is_wait h f ≡ true) is)
 
   pub waits_barrier : (f : ℕ) (x : BarrierWaitEntry) → get s.ws f ≡ Some x → IsSome (get s.bs x.barrier)
   waits_barrier f x there = seen-some_back barrier_seen s.bs x.barrier (s.kept.valid.waits.at f (wait_seen x) (seen-at wait_seen s.ws f x there)).1
@@ -192,11 +200,34 @@ module _ {old : Part Barriers} {i : ℕ} (s : Site old i) where
   new_wait : get s.ws i ≡ None
   new_wait = seen-none_back wait_seen s.ws i (no_thing model.of_wait _ _ s.next i s.kept.valid.waits s.later)
 
-  known_barrier : (b : ℕ) → is_barrier old.hall b ≡ true → (if is_barrier old.hall b then None else Some stops.Unknown) ≡ None
-  known_barrier b is = ap (λ b. if b then None else Some stops.Unknown) is
+  -- ---- why it is refused, or is not
+  known_barrier : (b : ℕ) (p : Option BarrierEntry) → get s.bs b ≡ p → is_barrier old.hall b ≡ is_some p
+  known_barrier b p is = sym (is_barrier_is s.bs s.ws s.next s.view b) ∙ ap is_some is
 
-  known_wait : (f : ℕ) → is_wait old.hall f ≡ true → (if is_wait old.hall f then None else Some stops.Unknown) ≡ None
-  known_wait f is = ap (λ b. if b then None else Some stops.Unknown) is
+  known_wait : (f : ℕ) (p : Option BarrierWaitEntry) → get s.ws f ≡ p → is_wait old.hall f ≡ is_some p
+  known_wait f p is = sym (is_wait_is s.bs s.ws s.next s.view f) ∙ ap is_some is
+
+  pub barrier_unknown : (b : ℕ) → get s.bs b ≡ None → unknown_unless (is_barrier old.hall b) ≡ Some stops.Unknown
+  barrier_unknown b none = ap unknown_unless (known_barrier b None none)
+
+  pub wait_unknown : (f : ℕ) → get s.ws f ≡ None → unknown_unless (is_wait old.hall f) ≡ Some stops.Unknown
+  wait_unknown f none = ap unknown_unless (known_wait f None none)
+
+  pub barrier_known : (b : ℕ) (e : BarrierEntry) → get s.bs b ≡ Some e → unknown_unless (is_barrier old.hall b) ≡ None
+  barrier_known b e there = ap unknown_unless (known_barrier b (Some e) there)
+
+  pub wait_known : (f : ℕ) (x : BarrierWaitEntry) → get s.ws f ≡ Some x → unknown_unless (is_wait old.hall f) ≡ None
+  wait_known f x future = ap unknown_unless (known_wait f (Some x) future)
+
+  -- what was lent or sought, and did not change
+  untold : (bs' : Names BarrierEntry) (ws' : Names BarrierWaitEntry) → bs' ≡ s.bs → ws' ≡ s.ws → AreKeptBarriers bs' ws' s.next × (part_of bs' ws' s.next ≡ old)
+  untold bs' ws' barriers waits = rw (barriers, waits) (s.kept, s.view)
+
+  pub unlent : (b : ℕ) (e : BarrierEntry) → get s.bs b ≡ Some e → AreKeptBarriers (insert s.bs b e) s.ws s.next × (part_of (insert s.bs b e) s.ws s.next ≡ old)
+  unlent b e there = untold (insert s.bs b e) s.ws (insert_same s.bs b e there) refl
+
+  pub untaken : (f : ℕ) → get s.ws f ≡ None → (ws' : Names BarrierWaitEntry) → ws' ≡ remove s.ws f → AreKeptBarriers s.bs ws' s.next × (part_of s.bs ws' s.next ≡ old)
+  untaken f none ws' gone = untold s.bs ws' refl (gone ∙ gone_none s.ws f none)
 
   -- ---- at a barrier that is there
   module _ (b : ℕ) (e : BarrierEntry) (there : get s.bs b ≡ Some e) where
@@ -227,7 +258,7 @@ module _ {old : Part Barriers} {i : ℕ} (s : Site old i) where
     waits_is = ap (λ (p : Part Barriers). waits_of p.hall b) (sym s.view) ∙ ap len (own-seen of_barrier model.of_wait wait_seen (λ x. refl) b s.ws) ∙ len-seen wait_seen (own of_barrier b s.ws) ∙ sym (its).counted
 
     pub drop_cause : (if nat_lt 0 e.waits then Some stops.Borrowed else None) ≡ borrowed_by (is_barrier old.hall b) (waits_of old.hall b)
-    drop_cause = ap (λ n. if nat_lt 0 n then Some stops.Borrowed else None) (sym waits_is) ∙ sym (ap (λ k. borrowed_by k (waits_of old.hall b)) (ap is_some (ap (λ (p : Part Barriers). get p.hall.barriers b) (sym s.view) ∙ its_seen)))
+    drop_cause = ap (λ n. if nat_lt 0 n then Some stops.Borrowed else None) (sym waits_is) ∙ sym (ap (λ k. borrowed_by k (waits_of old.hall b)) (known_barrier b (Some e) there))
 
     kept_now : (d : BarrierEntry) → kept_in (insert s.bs b d) + kept_by e ≡ kept_in s.bs + kept_by d
     kept_now d =
@@ -238,25 +269,25 @@ module _ {old : Part Barriers} {i : ℕ} (s : Site old i) where
     each_turned ws' moves d good = by_put s.bs b d (λ q p. (g : BarrierEntry) → p ≡ Some g → AreKept g (own of_barrier q ws') (i + 1)) (λ g is. subst (λ g. AreKept g (own of_barrier b ws') (i + 1)) (inside is) good)
         (λ q apart g is. rw (moves_elsewhere of_barrier b i s.ws ws' moves q apart) (lasts g (own of_barrier q s.ws) s.next (i + 1) (s.kept.each q g is) (let later = s.later in omega (arith, later))))
 
-    pub begun : is_barrier old.hall b ≡ true → (w : Wait) → w ≡ New → (ws' : Names BarrierWaitEntry) → ws' ≡ insert s.ws i (record { barrier = b; wait = w })
+    pub begun : (w : Wait) → w ≡ New → (ws' : Names BarrierWaitEntry) → ws' ≡ insert s.ws i (record { barrier = b; wait = w })
         → Rests (Begin b) answers.Made (insert s.bs b (record e { waits = e.waits + 1 })) ws'
-    begun known w new ws' put =
+    begun w new ws' put =
         let now = kept_now (record e { waits = e.waits + 1 }) in
-        rw put (rests_as (Begin b) (model.begin here i b) refl (known_barrier b known) answers.Made refl (insert s.bs b (record e { waits = e.waits + 1 })) (insert s.ws i (record { barrier = b; wait = w }))
+        rw put (rests_as (Begin b) (model.begin here i b) refl (barrier_known b e there) answers.Made refl (insert s.bs b (record e { waits = e.waits + 1 })) (insert s.ws i (record { barrier = b; wait = w }))
         (seen-alike barrier_seen s.bs b e (record e { waits = e.waits + 1 }) there refl)
         (seen-insert wait_seen s.ws i (record { barrier = b; wait = w }) ∙ ap (insert (seen wait_seen s.ws) i) (λ j. record { barrier = b; round = round_of (new j) }))
         (each_turned (insert s.ws i (record { barrier = b; wait = w })) (Comes i (record { barrier = b; wait = w }) (omega arith) refl (λ z is. absurd (let none = new_wait in cc))) (record e { waits = e.waits + 1 })
         (rw (own-put of_barrier b s.ws i (record { barrier = b; wait = w }) refl) (begins e (own of_barrier b s.ws) s.next i its s.later (record { barrier = b; wait = w }) new (own-none of_barrier b s.ws i new_wait))))
         refl (omega (arith, now)))
 
-    pub dropped : is_barrier old.hall b ≡ true → waits_of old.hall b ≡ 0 → (bs' : Names BarrierEntry) → bs' ≡ remove s.bs b → (before after : Waking ℕ) → after ≡ record before { registered = before.registered - length e.core.waiting.wakers } → registered old.hall ≤ before.registered
+    pub dropped : borrowed_by (is_barrier old.hall b) (waits_of old.hall b) ≡ None → (bs' : Names BarrierEntry) → bs' ≡ remove s.bs b → (before after : Waking ℕ) → after ≡ record before { registered = before.registered - length e.core.waiting.wakers } → registered old.hall ≤ before.registered
         → Yields (Drop b) answers.Done bs' s.ws before after
-    dropped known none bs' gone before after less room =
+    dropped allowed bs' gone before after less room =
         let was : weight (λ b (e : BarrierEntry). length e.core.waiting.wakers) b (get s.bs b) ≡ kept_by e = ap (weight (λ b (e : BarrierEntry). length e.core.waiting.wakers) b) there in
         let all = total-remove (λ b (e : BarrierEntry). length e.core.waiting.wakers) s.bs b in
         let fits = its_room before room in
         let counted = ap (λ (w : Waking ℕ). w.registered) less in
-        rw gone (yields_as (Drop b) (model.drop here b) refl (ap (λ k. borrowed_by k (waits_of old.hall b)) known ∙ ap (λ n. borrowed_by true n) none) answers.Done refl (remove s.bs b) s.ws (seen-remove barrier_seen s.bs b) refl
+        rw gone (yields_as (Drop b) (model.drop here b) refl allowed answers.Done refl (remove s.bs b) s.ws (seen-remove barrier_seen s.bs b) refl
         (by_gone s.bs b (λ q p. (g : BarrierEntry) → p ≡ Some g → AreKept g (own of_barrier q s.ws) (i + 1)) (λ g is. absurd (cc)) (λ q apart g is. lasts g (own of_barrier q s.ws) s.next (i + 1) (s.kept.each q g is) (let later = s.later in omega (arith, later))))
         before after (ap (λ (w : Waking ℕ). w.wakers) less ∙ sym (append-nil before.wakers)) (omega (arith, was, all, fits, counted)))
 
@@ -281,10 +312,10 @@ module _ {old : Part Barriers} {i : ℕ} (s : Site old i) where
       goes : Moves of_barrier b i s.ws (remove s.ws f)
       goes = Goes f (λ z is. ap (λ (x : BarrierWaitEntry). x.barrier) (inside (sym is ∙ future)) ∙ mine)
 
-      pub ended : is_wait old.hall f ≡ true → (ws' : Names BarrierWaitEntry) → ws' ≡ remove s.ws f → Rests (End f) answers.Done (insert s.bs b (record e { waits = e.waits - 1 })) ws'
-      ended known ws' gone_now =
+      pub ended : (ws' : Names BarrierWaitEntry) → ws' ≡ remove s.ws f → Rests (End f) answers.Done (insert s.bs b (record e { waits = e.waits - 1 })) ws'
+      ended ws' gone_now =
           let now = kept_now (record e { waits = e.waits - 1 }) in
-          rw gone_now (rests_as (End f) (model.end here f) refl (known_wait f known) answers.Done refl (insert s.bs b (record e { waits = e.waits - 1 })) (remove s.ws f)
+          rw gone_now (rests_as (End f) (model.end here f) refl (wait_known f x future) answers.Done refl (insert s.bs b (record e { waits = e.waits - 1 })) (remove s.ws f)
           (seen-alike barrier_seen s.bs b e (record e { waits = e.waits - 1 }) there refl) (seen-remove wait_seen s.ws f)
           (each_turned (remove s.ws f) goes (record e { waits = e.waits - 1 })
           (rw (own-gone of_barrier b s.ws f) (leaves e (own of_barrier b s.ws) s.next i its s.later f x own_future e.core (gone e (own of_barrier b s.ws) s.next i its s.later f x own_future) its_quiet)))
@@ -298,7 +329,7 @@ module _ {old : Part Barriers} {i : ℕ} (s : Site old i) where
       quiet_core : (d : BarrierEntry) (c : cores.Barrier NamedWaker) (woken : List NamedWaker) → d.core.wakes ≡ [] → record d.core { wakes = woken } ≡ c → d.core ≡ record c { wakes = [] }
       quiet_core d c woken quiet is = λ j. record { size = (is j).size; arrivals = (is j).arrivals; waiting = (is j).waiting; wakes = quiet j }
 
-      module _ (w : ℕ) (d : BarrierEntry) (u : Wait) (before after : Waking ℕ) (known : is_wait old.hall f ≡ true) where
+      module _ (w : ℕ) (d : BarrierEntry) (u : Wait) (before after : Waking ℕ) where
         -- it waits: its waker is registered
         registers : (round : ℕ) (c : cores.Barrier NamedWaker) → c.waiting ≡ with_waker e.core.waiting (slot_of x.wait) (record { future = f; waker = w }) → c.wakes ≡ [] → (out : Outcome Barriers) → act_at here i (PollIt f w) ≡ out → out.reply ≡ answers.Pending → out.wakes ≡ []
             → out.hall ≡ record { barriers = insert (seen barrier_seen s.bs) b (record (core_seen c) { waiting = registering (set_names e.core.waiting) f w }); waits = insert (seen wait_seen s.ws) f (record { barrier = b; round = Some round }) }
@@ -311,7 +342,7 @@ module _ {old : Part Barriers} {i : ℕ} (s : Site old i) where
             let counted = t.counted in
             let none : t.woken ≡ [] = ap (λ (c : cores.Barrier NamedWaker). c.wakes) core ∙ calm in
             let names : set_names c.waiting ≡ registering (set_names e.core.waiting) f w = ap set_names waiting ∙ names_now e (own of_barrier b s.ws) s.next i its s.later f x own_future w in
-            yields_as (PollIt f w) out is (known_wait f known) answers.Pending (sym pends) (insert s.bs b d) (insert s.ws f (record x { wait = u }))
+            yields_as (PollIt f w) out is (wait_known f x future) answers.Pending (sym pends) (insert s.bs b d) (insert s.ws f (record x { wait = u }))
             (seen-insert barrier_seen s.bs b d ∙ ap (insert (seen barrier_seen s.bs) b) (ap core_seen core_is ∙ (λ j. record (core_seen c) { waiting = names j })) ∙ ap (λ (h : Barriers). h.barriers) (sym hall))
             (seen-insert wait_seen s.ws f (record x { wait = u }) ∙ ap (insert (seen wait_seen s.ws) f) (λ j. record { barrier = mine j; round = round_of (wait j) }) ∙ ap (λ (h : Barriers). h.waits) (sym hall))
             (each_turned (insert s.ws f (record x { wait = u })) (Comes f (record x { wait = u }) (let low = (s.kept.valid.waits.at f (wait_seen x) (seen-at wait_seen s.ws f x future)).0 in let later = s.later in omega (arith, low, later)) mine (λ z is. ap (λ (x : BarrierWaitEntry). x.barrier) (inside (sym is ∙ future)) ∙ mine)) d
@@ -360,7 +391,7 @@ module _ {old : Part Barriers} {i : ℕ} (s : Site old i) where
             let d_is : record d { waits = d.waits - 1 } ≡ record { core = record c { wakes = [] }; waits = e.waits - 1 } = λ j. record { core = core_is j; waits = t.waits j - 1 } in
             let now = kept_now (record d { waits = d.waits - 1 }) in
             let counted = t.counted in
-            yields_as (PollIt f w) out is (known_wait f known) answer replied (insert s.bs b (record d { waits = d.waits - 1 })) (remove s.ws f)
+            yields_as (PollIt f w) out is (wait_known f x future) answer replied (insert s.bs b (record d { waits = d.waits - 1 })) (remove s.ws f)
             (seen-insert barrier_seen s.bs b (record d { waits = d.waits - 1 }) ∙ ap (insert (seen barrier_seen s.bs) b) (ap core_seen core_is) ∙ sym barriers) (seen-remove wait_seen s.ws f ∙ sym waits)
             (each_turned (remove s.ws f) goes (record d { waits = d.waits - 1 })
             (rw d_is (subst (λ m. AreKept (record { core = record c { wakes = [] }; waits = e.waits - 1 }) m (i + 1)) (sym (own-gone of_barrier b s.ws f)) (leaves e (own of_barrier b s.ws) s.next i its s.later f x own_future (record c { wakes = [] }) (subst (λ m. SetLinked c.waiting (slots_of m) (i + 1)) (own-gone of_barrier b s.ws f) linked) refl))))
@@ -441,17 +472,3 @@ module _ {old : Part Barriers} {i : ℕ} (s : Site old i) where
         counted = sym (len-empty nat_cmp BarrierWaitEntry);
         few = omega arith;
       }
-
--- ---- what is seen at a name
-module _ (bs : Names BarrierEntry) (ws : Names BarrierWaitEntry) (next : ℕ) {old : Part Barriers} (view : ◌≡◌ {A = Part Barriers} (record { hall = barriers_seen bs ws; next = next }) old) where
-  pub barrier_is : (b : ℕ) (p : Option BarrierEntry) → get bs b ≡ p → option_map barrier_seen p ≡ get old.hall.barriers b
-  barrier_is b p is = ap (option_map barrier_seen) (sym is) ∙ sym (get-seen (λ k e. barrier_seen e) bs b) ∙ ap (λ (p : Part Barriers). get p.hall.barriers b) view
-
-  pub is_barrier_is : (b : ℕ) → is_some (get bs b) ≡ is_barrier old.hall b
-  is_barrier_is b = sym (is_some-map barrier_seen (get bs b)) ∙ ap is_some (barrier_is b (get bs b) refl)
-
-  pub is_wait_is : (f : ℕ) → is_some (get ws f) ≡ is_wait old.hall f
-  is_wait_is f = sym (is_some-map wait_seen (get ws f)) ∙ ap is_some (sym (get-seen (λ k y. wait_seen y) ws f)) ∙ ap (λ (p : Part Barriers). is_wait p.hall f) view
-
-  pub valid_is : AreKeptBarriers bs ws next → HasBarriers old.hall old.next
-  valid_is kept = subst (λ (p : Part Barriers). HasBarriers p.hall p.next) view kept.valid

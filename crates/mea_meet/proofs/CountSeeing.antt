@@ -1,5 +1,5 @@
 -- what is seen of a point that counts, after each call of its core
-use Rattle.std.proofs.Common.{◌≡◌, ℕ, ◌+◌, ◌-◌, ◌++◌, Bool, true, false, [], ◌∷◌, length, map, Option, if◌then◌else◌, refl, ap, sym, ◌∙◌, arith}
+use Rattle.std.proofs.Common.{◌≡◌, ℕ, ◌+◌, ◌-◌, ◌++◌, Bool, true, false, [], length, map, Option, if◌then◌else◌, refl, ap, sym, ◌∙◌, arith}
 use Rattle.mea_base.specs.Totals.{total}
 use Rattle.mea_base.proofs.Totals.{total-same}
 use Rattle.mea_by_name.specs.declared.named_waker.NamedWaker.{NamedWaker}

@@ -14,7 +14,7 @@ use Rattle.mea_by_name.specs.ByName.{Names, seen, own}
 use Rattle.mea_by_name.proofs.Cases.{found_is, if_true, if_false}
 use Rattle.mea_by_name.proofs.Own.{Moves, moves_elsewhere, seen-at, seen-empty, seen-insert, seen-remove, own-empty, put_gone, own-seen, len-seen, seen-none_back, seen-some_back}
 use Rattle.mea_meet_model.specs.Counts as model
-use Rattle.mea_meet_model.specs.Counts.{Counts, Point, End, Holder, Awaited, Wait, New, no_counts, is_holder, is_sender, is_wait, borrows, borrowers_of, registered, things_of, tidied}
+use Rattle.mea_meet_model.specs.Counts.{Counts, Point, no_counts, is_holder, is_sender, is_wait, registered, things_of, tidied}
 use Rattle.mea_meet_model.specs.CountActions.{Action, act_in, cause_in}
 use Rattle.mea_meet_model.specs.Valid.{HasCounts}
 use Rattle.mea_meet_model.proofs.CountsKept.{counts_empty, no_point, no_holder, no_wait, no_sender}
@@ -33,6 +33,23 @@ new_kept = record { valid = rw (seen-empty point_seen, seen-empty holder_seen, s
 
 pub new_view : ◌≡◌ {A = Part Counts} (record { hall = counts_seen empty empty empty empty; next = 0 }) (record { hall = no_counts; next = 0 })
 new_view = rw (seen-empty point_seen, seen-empty holder_seen, seen-empty wait_seen) refl
+
+-- ---- what is seen at a name
+module _ (ps : Names KeptPoint) (ss : Names ℕ) (hs : Names HolderEntry) (ws : Names WaitEntry) (next : ℕ) {old : Part Counts} (view : ◌≡◌ {A = Part Counts} (record { hall = counts_seen ps ss hs ws; next = next }) old) where
+  pub holder_is : (k : ℕ) (p : Option HolderEntry) → get hs k ≡ p → option_map holder_seen p ≡ get old.hall.holders k
+  holder_is k p is = ap (option_map holder_seen) (sym is) ∙ sym (get-seen (λ k x. holder_seen x) hs k) ∙ ap (λ (p : Part Counts). get p.hall.holders k) view
+
+  pub is_holder_is : (k : ℕ) → is_some (get hs k) ≡ is_holder old.hall k
+  is_holder_is k = sym (is_some-map holder_seen (get hs k)) ∙ ap is_some (holder_is k (get hs k) refl)
+
+  pub is_wait_is : (f : ℕ) → is_some (get ws f) ≡ is_wait old.hall f
+  is_wait_is f = sym (is_some-map wait_seen (get ws f)) ∙ ap is_some (sym (get-seen (λ k y. wait_seen y) ws f)) ∙ ap (λ (p : Part Counts). is_wait p.hall f) view
+
+  pub is_sender_is : (k : ℕ) → is_some (get ss k) ≡ is_sender old.hall k
+  is_sender_is k = ap (λ (p : Part Counts). is_sender p.hall k) view
+
+  pub point_is : (o : ℕ) (p : Option KeptPoint) → get ps o ≡ p → option_map point_seen p ≡ get old.hall.points o
+  point_is o p is = ap (option_map point_seen) (sym is) ∙ sym (get-seen (λ k e. point_seen e) ps o) ∙ ap (λ (p : Part Counts). get p.hall.points o) view
 
 -- what the points keep to, each with what is of it
 pub record Each (ps : Names KeptPoint) (ss : Names ℕ) (hs : Names HolderEntry) (ws : Names WaitEntry) (n : ℕ) : Type 0 where
@@ -101,6 +118,16 @@ module _ {old : Part Counts} {i : ℕ} (s : Site old i) where
       })),
     )
 
+  -- ---- whether a name is known
+  pub known_holder : (k : ℕ) (p : Option HolderEntry) → get s.hs k ≡ p → is_holder old.hall k ≡ is_some p
+  known_holder k p is = sym (is_holder_is s.ps s.ss s.hs s.ws s.next s.view k) ∙ ap is_some is
+
+  pub known_wait : (f : ℕ) (p : Option WaitEntry) → get s.ws f ≡ p → is_wait old.hall f ≡ is_some p
+  known_wait f p is = sym (is_wait_is s.ps s.ss s.hs s.ws s.next s.view f) ∙ ap is_some is
+
+  pub known_sender : (k : ℕ) (p : Option ℕ) → get s.ss k ≡ p → is_sender old.hall k ≡ is_some p
+  known_sender k p is = sym (is_sender_is s.ps s.ss s.hs s.ws s.next s.view k) ∙ ap is_some is
+
   -- ---- what is not there yet
   pub new_point : get s.ps i ≡ None
   new_point = seen-none_back point_seen s.ps i (no_point here s.next i s.kept.valid s.later)
@@ -117,12 +144,6 @@ module _ {old : Part Counts} {i : ℕ} (s : Site old i) where
   -- ---- what is there
   pub holder_there : (k : ℕ) → is_holder old.hall k ≡ true → IsSome (get s.hs k)
   holder_there k is = seen-some_back holder_seen s.hs k (in_view (λ h. is_holder h k ≡ true) is)
-
-  pub sender_there : (k : ℕ) → is_sender old.hall k ≡ true → IsSome (get s.ss k)
-  sender_there k is = in_view (λ h. is_sender h k ≡ true) is
-
-  pub wait_there : (f : ℕ) → is_wait old.hall f ≡ true → IsSome (get s.ws f)
-  wait_there f is = seen-some_back wait_seen s.ws f (in_view (λ h. is_wait h f ≡ true) is)
 
   pub point_there : (o : ℕ) → IsSome (get old.hall.points o) → IsSome (get s.ps o)
   point_there o some = seen-some_back point_seen s.ps o (in_view (λ h. IsSome (get h.points o)) some)
@@ -248,26 +269,6 @@ module _ {old : Part Counts} {i : ℕ} (s : Site old i) where
   -- what an action does is valid
   pub valid_act : (a : Action) → cause_in old.hall a ≡ None → MayAct here a → HasCounts (act_in here i a).hall (i + 1)
   valid_act a allowed may = keeps here s.next i s.kept.valid s.later a (in_view (λ h. cause_in h a ≡ None) allowed) may
-
--- ---- what is seen at a name
-module _ (ps : Names KeptPoint) (ss : Names ℕ) (hs : Names HolderEntry) (ws : Names WaitEntry) (next : ℕ) {old : Part Counts} (view : ◌≡◌ {A = Part Counts} (record { hall = counts_seen ps ss hs ws; next = next }) old) where
-  pub holder_is : (k : ℕ) (p : Option HolderEntry) → get hs k ≡ p → option_map holder_seen p ≡ get old.hall.holders k
-  holder_is k p is = ap (option_map holder_seen) (sym is) ∙ sym (get-seen (λ k x. holder_seen x) hs k) ∙ ap (λ (p : Part Counts). get p.hall.holders k) view
-
-  pub is_holder_is : (k : ℕ) → is_some (get hs k) ≡ is_holder old.hall k
-  is_holder_is k = sym (is_some-map holder_seen (get hs k)) ∙ ap is_some (holder_is k (get hs k) refl)
-
-  pub is_wait_is : (f : ℕ) → is_some (get ws f) ≡ is_wait old.hall f
-  is_wait_is f = sym (is_some-map wait_seen (get ws f)) ∙ ap is_some (sym (get-seen (λ k y. wait_seen y) ws f)) ∙ ap (λ (p : Part Counts). is_wait p.hall f) view
-
-  pub is_sender_is : (k : ℕ) → is_some (get ss k) ≡ is_sender old.hall k
-  is_sender_is k = ap (λ (p : Part Counts). is_sender p.hall k) view
-
-  pub point_is : (o : ℕ) (p : Option KeptPoint) → get ps o ≡ p → option_map point_seen p ≡ get old.hall.points o
-  point_is o p is = ap (option_map point_seen) (sym is) ∙ sym (get-seen (λ k e. point_seen e) ps o) ∙ ap (λ (p : Part Counts). get p.hall.points o) view
-
-  pub valid_is : AreKeptCounts ps ss hs ws next → HasCounts old.hall old.next
-  valid_is kept = subst (λ (p : Part Counts). HasCounts p.hall p.next) view kept.valid
 
 -- the points as they are looked at
 abbrev pub look : {old : Part Counts} (ps : Names KeptPoint) (ss : Names ℕ) (hs : Names HolderEntry) (ws : Names WaitEntry) (next : ℕ) → ◌≡◌ {A = Part Counts} (record { hall = counts_seen ps ss hs ws; next = next }) old → AreKeptCounts ps ss hs ws next → Site old next

@@ -1,5 +1,5 @@
 -- one point that counts, as it is kept with its futures, holders and senders: what each change of it keeps
-use Rattle.std.proofs.Common.{◌≡◌, ℕ, ◌+◌, ◌-◌, ◌≤◌, ◌==◌, Bool, true, false, cond, [], ◌∷◌, Option, Some, None, if◌then◌else◌, refl, ap, sym, subst, ◌∙◌, arith}
+use Rattle.std.proofs.Common.{◌≡◌, ℕ, ◌+◌, ◌-◌, ◌≤◌, ◌==◌, Bool, true, false, cond, [], Option, Some, None, if◌then◌else◌, refl, ap, sym, subst, ◌∙◌, arith}
 use Rattle.std.specs.Ordering.{nat_cmp}
 use Rattle.std.specs.FinMap.{get, insert, remove, empty, len, get-empty, len-empty}
 use Rattle.mea_base.proofs.Maps.{by_put, inside, removed_there, nothing_at}
@@ -13,16 +13,16 @@ use Rattle.mea_sets.specs.WaitSet.{Registered, has_given, with_waker, slot_after
 use Rattle.mea_sets.specs.Countdown as cores
 use Rattle.mea_cores_by_name.specs.SetLinked.{SetLinked, set_names}
 use Rattle.mea_cores_by_name.proofs.Sets.{registered_links, registered_names, drained_links, begun_links, gone_links, linked_later}
-use Rattle.mea_meet_model.specs.Counts.{End, OfSignal, OfMembers, borrows}
+use Rattle.mea_meet_model.specs.Counts.{New, End, OfSignal, OfMembers, borrows}
 use Rattle.mea_meet_model.specs.Counts as model
 use Rattle.mea_meet.specs.declared.holder_entry.HolderEntry.{HolderEntry}
 use Rattle.mea_meet.specs.declared.wait_entry.WaitEntry.{WaitEntry}
 use Rattle.mea_meet.specs.declared.count_wait.CountWait.{CountWait}
 use Rattle.mea_meet.specs.declared.count_wait.CountWait.TheVariants as waits
-use Rattle.mea_meet.specs.CountCores.{NamedPoint, arrived, joined, parted, handed_on, count_at, with_count}
+use Rattle.mea_meet.specs.CountCores.{point_from, arrived, joined, parted, handed_on, count_at, with_count}
 use Rattle.mea_meet.specs.CountWaits.{end_of, slot_of, with_slot, slot_at, awaits_of}
 use Rattle.mea_meet.specs.CountEntries.{KeptPoint}
-use Rattle.mea_meet.specs.CountParts.{AreKept, IsFresh, slots_at, borrowers_in}
+use Rattle.mea_meet.specs.CountParts.{AreKept, slots_at, borrowers_in}
 
 -- a new set, that no future waits in
 pub fresh_linked : (n : ℕ) → SetLinked (record { wakers = []; drains = 0 }) empty n
@@ -221,16 +221,16 @@ module _ (e : KeptPoint) (ws : Names WaitEntry) (hs : Names HolderEntry) (ss : N
               ∙ insert_same (slots_at OfSignal ws) f None (seen-at (λ (x : WaitEntry). slot_at OfSignal x.wait) ws f y there ∙ ap (λ x. Some (slot_at OfSignal x)) mine))) (still OfSignal)
 
 -- a new point with its first holder, and with a sender or none
-pub fresh_kept : (p : NamedPoint) → IsFresh p → (i things : ℕ) (z : HolderEntry) → z.borrowers ≡ 0 → (ss : Names ℕ) → things ≡ len ss + 1 → things ≤ 2 → AreKept (record { point = p; things = things }) empty (insert empty i z) ss (i + 1)
-fresh_kept p fresh i things z none ss all few = record {
+pub new_kept : (new : New) (i things : ℕ) (z : HolderEntry) → z.borrowers ≡ 0 → (ss : Names ℕ) → things ≡ len ss + 1 → things ≤ 2 → AreKept (record { point = point_from new; things = things }) empty (insert empty i z) ss (i + 1)
+new_kept new i things z none ss all few = record {
   linked = at;
-  quiet = fresh.wakes;
+  quiet = refl;
   things = let one = len-new (empty {X = HolderEntry} {R = nat_cmp}) i z (get-empty nat_cmp i) in let nobody = len-empty nat_cmp HolderEntry in let nothing = len-empty nat_cmp WaitEntry in omega (arith, all, one, nobody, nothing);
   few = omega (arith, few);
   borrowers = by_put empty i z (λ k p. (x : HolderEntry) → p ≡ Some x → x.borrowers ≡ borrowers_in k empty)
       (λ x is. ap (λ (x : HolderEntry). x.borrowers) (sym (inside is)) ∙ none ∙ sym (total-empty (λ f (y : WaitEntry). cond (borrows (awaits_of y.wait) i) 1 0))) (λ k apart x is. absurd (nothing_at HolderEntry k x is));
 }
   where
-    at : (d : End) → SetLinked (count_at d p).waiting (slots_at d empty) (i + 1)
-    at OfSignal = subst (λ m. SetLinked p.signal.waiting m (i + 1)) (sym (seen-empty (λ (y : WaitEntry). slot_at OfSignal y.wait))) (subst (λ (c : cores.Count NamedWaker). SetLinked c.waiting empty (i + 1)) (sym fresh.signal) (fresh_linked (i + 1)))
-    at OfMembers = subst (λ m. SetLinked p.receivers.waiting m (i + 1)) (sym (seen-empty (λ (y : WaitEntry). slot_at OfMembers y.wait))) (subst (λ (c : cores.Count NamedWaker). SetLinked c.waiting empty (i + 1)) (sym fresh.members) (fresh_linked (i + 1)))
+    at : (d : End) → SetLinked (count_at d (point_from new)).waiting (slots_at d empty) (i + 1)
+    at OfSignal = subst (λ m. SetLinked (record { wakers = []; drains = 0 }) m (i + 1)) (sym (seen-empty (λ (y : WaitEntry). slot_at OfSignal y.wait))) (fresh_linked (i + 1))
+    at OfMembers = subst (λ m. SetLinked (record { wakers = []; drains = 0 }) m (i + 1)) (sym (seen-empty (λ (y : WaitEntry). slot_at OfMembers y.wait))) (fresh_linked (i + 1))

@@ -1,36 +1,35 @@
 -- what is said of the meeting points of one kind, and of all
-use Rattle.std.proofs.Common.{◌≡◌, ℕ, ◌+◌, ◌≤◌, ◌++◌, ap, sym, ◌∙◌, arith, append-nil, Bool, true, false, None, Some, refl}
+use Rattle.std.proofs.Common.{◌≡◌, ℕ, ◌+◌, ◌≤◌, Bool, true, false, Option, Some, None, inl, inr, refl, ap, subst, arith}
 use Rattle.std.specs.FinMap.{get}
 use Rattle.mea_family.specs.Causes.{borrowed_by}
-use Rattle.mea_meet_model.proofs.CountEvents.{not_borrowed, none_borrows}
 use Rattle.mea_family.specs.declared.answer.Answer.{Answer}
-use Rattle.mea_family.specs.Family.{Outcome}
+use Rattle.mea_family.specs.declared.stop.Stop.{Stop}
+use Rattle.mea_family.specs.declared.stop.Stop.TheVariants as stops
 use Rattle.mea_base.specs.Ready.{Waking}
-use Rattle.mea_family.specs.Play.{Part, PartYields, PartRests}
+use Rattle.mea_family.specs.Play.{Part, PartYields}
 use Rattle.mea_events.specs.declared.meet_event.MeetEvent.{MeetEvent}
-use Rattle.mea_meet_model.specs.Barriers as barriers
 use Rattle.mea_meet_model.specs.Barriers.{Barriers}
-use Rattle.mea_meet_model.specs.Counts as counts
 use Rattle.mea_meet_model.specs.Counts.{Counts, Wait, is_holder, borrowers_of, borrows}
 use Rattle.mea_meet_model.specs.Hall.{Latches, Groups, Shutdowns, registered as all_registered}
-use Rattle.mea_meet_model.specs.Meaning.{Doing, OnBarriers, OnCounts, doing}
+use Rattle.mea_meet_model.specs.Meaning.{Meaning, OnBarriers, OnCounts, meaning_of}
 use Rattle.mea_meet_model.specs.Step.{step, step_by}
-use Rattle.mea_meet.specs.Halls.{hall_of, AreBelow, PlaysDoing, PlaysKinds}
+use Rattle.mea_meet_model.proofs.CountEvents.{not_borrowed, none_borrows}
+use Rattle.mea_family.specs.Acts.{Refuses}
+use Rattle.mea_meet.specs.Halls.{hall_of, AreBelow, PlaysBy}
 
--- where no waker was made ready, those that are ready are as they were
-yield_rests : {H : Type 0} (registered : H → ℕ) (old : Part H) (i : ℕ) (o : Outcome H) (answer : Answer) (new : Part H) (w : Waking ℕ) → PartRests registered old i o answer new → PartYields registered old i o answer new w w
-yield_rests registered old i o answer new w rests = record {
-  replied = rests.replied;
-  moved = rests.moved;
-  woken = sym (append-nil w.wakers) ∙ ap (λ ws. w.wakers ++ ws) (sym rests.silent);
-  counted = omega (arith, rests.counted);
-}
+-- ---- what is refused
+-- a name that is not known
+pub unknown : (cause : Option Stop) (free : Type 0) → cause ≡ Some stops.Unknown → Refuses cause free stops.Unknown
+unknown cause free is = inl (is, λ no. absurd (cc))
 
-pub barriers_rest : (old : Part Barriers) (i : ℕ) (o : Outcome Barriers) (answer : Answer) (new : Part Barriers) (w : Waking ℕ) → PartRests barriers.registered old i o answer new → PartYields barriers.registered old i o answer new w w
-barriers_rest old i o answer new w rests = yield_rests barriers.registered old i o answer new w rests
+-- what has no cause, for want of memory
+pub lacking : (cause : Option Stop) (free : Type 0) → cause ≡ None → (free → ⊥) → Refuses cause free stops.NoMemory
+lacking cause free none takes = inr (none, refl, takes)
 
-pub counts_rest : (old : Part Counts) (i : ℕ) (o : Outcome Counts) (answer : Answer) (new : Part Counts) (w : Waking ℕ) → PartRests counts.registered old i o answer new → PartYields counts.registered old i o answer new w w
-counts_rest old i o answer new w rests = yield_rests counts.registered old i o answer new w rests
+-- what nothing borrows is known
+pub borrowed_none : (known : Bool) (n : ℕ) → borrowed_by known n ≡ None → (known ≡ true) × (n ≡ 0)
+borrowed_none true n is = (refl, not_borrowed true n is)
+borrowed_none false n is = absurd (cc)
 
 -- a holder that may end is borrowed by none
 pub borrowed_by_none : (h : Counts) (k : ℕ) → borrowed_by (is_holder h k) (borrowers_of h k) ≡ None → (f : ℕ) (y : Wait) → get h.waits f ≡ Some y → borrows y.awaits k ≡ false
@@ -40,6 +39,7 @@ borrowed_by_none h k allowed f y is = at (borrows y.awaits k) refl
     at false mine = mine
     at true mine = absurd (none_borrows h k (not_borrowed (is_holder h k) (borrowers_of h k) allowed) f y is mine)
 
+-- ---- what an event leaves
 -- a part of which nothing has changed has no greater next number
 stays_below : {H : Type 0} (p p' : Part H) (i : ℕ) → p' ≡ p → p.next ≤ i → p'.next ≤ i + 1
 stays_below {H} p p' i same below = omega (arith, ap (λ (p : Part H). p.next) same)
@@ -48,67 +48,65 @@ stays_below {H} p p' i same below = omega (arith, ap (λ (p : Part H). p.next) s
 goes_on : {H : Type 0} (p : Part H) (i : ℕ) (h : H) → p ≡ record { hall = h; next = i + 1 } → p.next ≤ i + 1
 goes_on {H} p i h moved = omega (arith, ap (λ (p : Part H). p.next) moved)
 
--- after an event the parts have seen no number from that of the next one on
-pub below_after : (b : Part Barriers) (l g s : Part Counts) (b' : Part Barriers) (l' g' s' : Part Counts) (before after : Waking ℕ) (i : ℕ) (e : MeetEvent) (answer : Answer) → AreBelow b l g s i → PlaysKinds b l g s i e answer b' l' g' s' before after
-    → AreBelow b' l' g' s' (i + 1)
-below_after b l g s b' l' g' s' before after i e answer held plays = at (doing e) plays
-  where
-    at : (d : Doing) → PlaysDoing d b l g s i answer b' l' g' s' before after → AreBelow b' l' g' s' (i + 1)
-    at (OnBarriers a) one = record {
-      barriers = goes_on b' i _ one.yields.moved;
-      latches = stays_below l l' i one.latches held.latches;
-      groups = stays_below g g' i one.groups held.groups;
-      shutdowns = stays_below s s' i one.shutdowns held.shutdowns;
-    }
-    at (OnCounts Latches a) one = record {
-      barriers = stays_below b b' i one.barriers held.barriers;
-      latches = goes_on l' i _ one.yields.moved;
-      groups = stays_below g g' i one.first held.groups;
-      shutdowns = stays_below s s' i one.second held.shutdowns;
-    }
-    at (OnCounts Groups a) one = record {
-      barriers = stays_below b b' i one.barriers held.barriers;
-      latches = stays_below l l' i one.first held.latches;
-      groups = goes_on g' i _ one.yields.moved;
-      shutdowns = stays_below s s' i one.second held.shutdowns;
-    }
-    at (OnCounts Shutdowns a) one = record {
-      barriers = stays_below b b' i one.barriers held.barriers;
-      latches = stays_below l l' i one.first held.latches;
-      groups = stays_below g g' i one.second held.groups;
-      shutdowns = goes_on s' i _ one.yields.moved;
-    }
+module _ (b : Part Barriers) (l g s : Part Counts) (b' : Part Barriers) (l' g' s' : Part Counts) (before after : Waking ℕ) (i : ℕ) (answer : Answer) where
+  -- after an event the parts have seen no number from that of the next one on
+  pub below_after : AreBelow b l g s i → (d : Meaning) → PlaysBy d b l g s i answer b' l' g' s' before after → AreBelow b' l' g' s' (i + 1)
+  below_after held (OnBarriers a) one = record {
+    barriers = goes_on b' i _ one.yields.moved;
+    latches = stays_below l l' i one.latches held.latches;
+    groups = stays_below g g' i one.groups held.groups;
+    shutdowns = stays_below s s' i one.shutdowns held.shutdowns;
+  }
+  below_after held (OnCounts Latches a) one = record {
+    barriers = stays_below b b' i one.barriers held.barriers;
+    latches = goes_on l' i _ one.yields.moved;
+    groups = stays_below g g' i one.first held.groups;
+    shutdowns = stays_below s s' i one.second held.shutdowns;
+  }
+  below_after held (OnCounts Groups a) one = record {
+    barriers = stays_below b b' i one.barriers held.barriers;
+    latches = stays_below l l' i one.first held.latches;
+    groups = goes_on g' i _ one.yields.moved;
+    shutdowns = stays_below s s' i one.second held.shutdowns;
+  }
+  below_after held (OnCounts Shutdowns a) one = record {
+    barriers = stays_below b b' i one.barriers held.barriers;
+    latches = stays_below l l' i one.first held.latches;
+    groups = stays_below g g' i one.second held.groups;
+    shutdowns = goes_on s' i _ one.yields.moved;
+  }
 
--- what was played on the parts was played on the hall
-pub yields_all : (b : Part Barriers) (l g s : Part Counts) (b' : Part Barriers) (l' g' s' : Part Counts) (before after : Waking ℕ) (next i : ℕ) (e : MeetEvent) (answer : Answer) → PlaysKinds b l g s i e answer b' l' g' s' before after
-    → PartYields all_registered (record { hall = hall_of b l g s; next = next }) i (step (hall_of b l g s) i e) answer (record { hall = hall_of b' l' g' s'; next = i + 1 }) before after
-yields_all b l g s b' l' g' s' before after next i e answer plays = at (doing e) plays
-  where
-    Yielded : Doing → Type 0
+  module _ (next : ℕ) where
+    abbrev Yielded : Meaning → Type 0
     Yielded d = PartYields all_registered (record { hall = hall_of b l g s; next = next }) i (step_by (hall_of b l g s) i d) answer (record { hall = hall_of b' l' g' s'; next = i + 1 }) before after
 
-    at : (d : Doing) → PlaysDoing d b l g s i answer b' l' g' s' before after → Yielded d
-    at (OnBarriers a) one = record {
+    yields_by : (d : Meaning) → PlaysBy d b l g s i answer b' l' g' s' before after → Yielded d
+    yields_by (OnBarriers a) one = record {
       replied = one.yields.replied;
       moved = λ j. record { hall = hall_of (one.yields.moved j) (one.latches j) (one.groups j) (one.shutdowns j); next = i + 1 };
       woken = one.yields.woken;
       counted = omega (arith, one.yields.counted);
     }
-    at (OnCounts Latches a) one = record {
+    yields_by (OnCounts Latches a) one = record {
       replied = one.yields.replied;
       moved = λ j. record { hall = hall_of (one.barriers j) (one.yields.moved j) (one.first j) (one.second j); next = i + 1 };
       woken = one.yields.woken;
       counted = omega (arith, one.yields.counted);
     }
-    at (OnCounts Groups a) one = record {
+    yields_by (OnCounts Groups a) one = record {
       replied = one.yields.replied;
       moved = λ j. record { hall = hall_of (one.barriers j) (one.first j) (one.yields.moved j) (one.second j); next = i + 1 };
       woken = one.yields.woken;
       counted = omega (arith, one.yields.counted);
     }
-    at (OnCounts Shutdowns a) one = record {
+    yields_by (OnCounts Shutdowns a) one = record {
       replied = one.yields.replied;
       moved = λ j. record { hall = hall_of (one.barriers j) (one.first j) (one.second j) (one.yields.moved j); next = i + 1 };
       woken = one.yields.woken;
       counted = omega (arith, one.yields.counted);
     }
+
+    -- what was played on the parts was played on the hall
+    pub yields_all : (e : MeetEvent) (d : Meaning) → d ≡ meaning_of e → PlaysBy d b l g s i answer b' l' g' s' before after
+        → PartYields all_registered (record { hall = hall_of b l g s; next = next }) i (step (hall_of b l g s) i e) answer (record { hall = hall_of b' l' g' s'; next = i + 1 }) before after
+    yields_all e d is plays = subst Yielded is (yields_by d plays)

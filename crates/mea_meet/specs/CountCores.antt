@@ -5,7 +5,7 @@ use Rattle.mea_sets.specs.Countdown as cores
 use Rattle.mea_sets.specs.Countdown.{Counting, count_from, decreased, woken_by}
 use Rattle.mea_meet_core.specs.Count.{increased}
 use Rattle.mea_meet_core.specs.Shutdown.{Shutdown, without_receiver}
-use Rattle.mea_meet_model.specs.Counts.{End, OfSignal, OfMembers}
+use Rattle.mea_meet_model.specs.Counts.{New, End, OfSignal, OfMembers}
 
 -- a shutdown whose wakers carry the names of their futures
 abbrev pub NamedPoint : Type 0
@@ -17,6 +17,10 @@ latch_seen c = record { signal = c.count; receivers = count_from 0; wakes = c.wa
 
 abbrev pub group_seen : Counting NamedWaker → NamedPoint
 group_seen c = record { signal = count_from 0; receivers = c.count; wakes = c.wakes }
+
+-- a new point, that nobody waits for
+abbrev pub point_from : New → NamedPoint
+point_from new = record { signal = count_from new.signal; receivers = count_from new.members; wakes = [] }
 
 abbrev pub count_at : End → NamedPoint → cores.Count NamedWaker
 count_at OfSignal p = p.signal

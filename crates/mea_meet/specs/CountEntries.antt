@@ -1,5 +1,5 @@
 -- what a hall keeps of a point that counts, and what the calls of its entry do
-use Rattle.std.specs.Prelude.{ℕ, ◌≡◌, ◌+◌, ◌<◌, ◌++◌, length, map, refl}
+use Rattle.std.specs.Prelude.{ℕ, ◌≡◌, ◌+◌, ◌<◌, ◌==◌, ◌&&◌, ◌++◌, Bool, length, map, refl}
 use Rattle.std.specs.Coded.{Coded, code_by, coded×, coded_ℕ}
 use Rattle.mea_base.specs.Ready.{Waking}
 use Rattle.mea_by_name.specs.declared.named_waker.NamedWaker.{NamedWaker}
@@ -18,6 +18,10 @@ pub record KeptPoint : Type 0 where
 
 abbrev pub kept_point_code : Coded KeptPoint
 kept_point_code = code_by (NamedPoint × ℕ) (coded× (shutdown_code waker_code) coded_ℕ) (λ e. (e.point, e.things)) (λ p. record { point = p.0; things = p.1 }) (λ _. refl)
+
+-- it counts as many members as it can, where one more would be counted
+abbrev pub is_full : KeptPoint → Bool → Bool
+is_full e counted = counted && (e.point.receivers.number == 4294967295)
 
 -- the point became this; its wakers were handed on
 pub record Settles (old : KeptPoint) (p : NamedPoint) (new : KeptPoint) (before after : Waking ℕ) : Type 0 where

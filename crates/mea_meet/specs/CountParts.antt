@@ -1,5 +1,5 @@
 -- points that count as the hall keeps them: what is seen of them, and what they keep to
-use Rattle.std.specs.Prelude.{ℕ, ◌≡◌, ◌+◌, ◌-◌, ◌≤◌, Bool, [], Option, Some, None}
+use Rattle.std.specs.Prelude.{ℕ, ◌≡◌, ◌+◌, ◌-◌, ◌≤◌, [], Option, Some, None}
 use Rattle.std.specs.FinMap.{get, insert, len}
 use Rattle.mea_by_name.specs.declared.named_waker.NamedWaker.{NamedWaker}
 use Rattle.mea_by_name.specs.ByName.{Names, seen, own, count}
@@ -8,7 +8,7 @@ use Rattle.mea_sets.specs.Countdown as cores
 use Rattle.mea_cores_by_name.specs.SetLinked.{SetLinked, set_names}
 use Rattle.mea_meet_model.specs.Count.{Count}
 use Rattle.mea_meet_model.specs.Counts as model
-use Rattle.mea_meet_model.specs.Counts.{Counts, Point, End, Holder, Wait, New, borrows}
+use Rattle.mea_meet_model.specs.Counts.{Counts, Point, End, Holder, Wait, borrows}
 use Rattle.mea_meet_model.specs.Valid.{HasCounts}
 use Rattle.mea_meet.specs.declared.holder_entry.HolderEntry.{HolderEntry}
 use Rattle.mea_meet.specs.declared.wait_entry.WaitEntry.{WaitEntry}
@@ -63,17 +63,6 @@ pub record AreKept (e : KeptPoint) (ws : Names WaitEntry) (hs : Names HolderEntr
 pub record AreKeptCounts (ps : Names KeptPoint) (ss : Names ℕ) (hs : Names HolderEntry) (ws : Names WaitEntry) (next : ℕ) : Type 0 where
   pub valid : HasCounts (counts_seen ps ss hs ws) next
   pub each : (o : ℕ) (e : KeptPoint) → get ps o ≡ Some e → AreKept e (own of_wait o ws) (own of_holder o hs) (own model.of_itself o ss) next
-
--- ---- what is new
--- a core that nobody waits for
-pub record IsFresh (p : NamedPoint) : Type 0 where
-  pub signal : p.signal ≡ cores.count_from p.signal.number
-  pub members : p.receivers ≡ cores.count_from p.receivers.number
-  pub wakes : p.wakes ≡ []
-
--- the new point that it makes
-abbrev pub new_of : NamedPoint → Bool → Bool → New
-new_of p counted sends = record { signal = p.signal.number; members = p.receivers.number; counted = counted; sends = sends }
 
 -- ---- what a call does
 -- one future less borrows what it borrowed, if it did

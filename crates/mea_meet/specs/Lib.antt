@@ -1,3 +1,4 @@
+pub mod Actions
 pub mod CountCores
 pub mod CountWaits
 pub mod CountEntries

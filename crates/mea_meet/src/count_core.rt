@@ -1,21 +1,29 @@
 ghost use Rattle.std.specs.Prelude.{◌≡◌, ◌≢◌, ◌<◌, ◌==◌, ◌∷◌, [], length, true, false, Ok, OnErr, IfOk, IfSome, IfNone};
 ghost use Rattle.mea_sets.specs.WaitSet.{has_given};
 ghost use Rattle.mea_sets.specs.Countdown.{PollsCount};
-ghost use Rattle.mea_meet.specs.CountCores.{arrived, joined, parted};
+ghost use Rattle.mea_meet.specs.CountCores.{point_from, arrived, joined, parted};
+ghost use Rattle.mea_meet.specs.Actions.{new_seen, takes_many, IsNewOf};
 
+use crate::new_point::NewPoint;
 use mea_base::{NoMemory, Poll};
 use mea_by_name::NamedWaker;
 use mea_meet_core::{GroupWait, LatchWait};
+use std::alloc::Global;
 
 /// The core of a meeting point that counts, as a hall uses it. Each kind is seen as a shutdown: a latch is one whose
 /// receivers have ended, and a wait group one whose signal is set. Only the polls take memory.
 pub trait CountCore: Drop {
     ghost use Rattle.mea_meet.specs.CountCores.{NamedPoint};
-    ghost use Rattle.std.specs.Prelude.{Bool};
+    ghost use Rattle.mea_meet_model.specs.Hall.{Kind};
 
     ghost point_of: { Self → NamedPoint };
-    // Whether more than 1 is taken from its signal at a time, as from that of a latch.
-    ghost takes_many: { Bool };
+
+    ghost kind: { Kind };
+
+    /// A point that nobody waits for. It takes no memory.
+    fn make(alloc: Global, new: NewPoint) -> Self
+        requires { IsNewOf kind (new_seen new) }
+        ensures { point_of result ≡ point_from (new_seen new) };
 
     /// Whether the count of the signal has ended.
     fn is_set(&self) -> bool
@@ -40,7 +48,7 @@ pub trait CountCore: Drop {
 
     /// Takes `n` from the signal.
     fn arrive(&mut self, n: u32)
-        requires { takes_many ≡ false → n ≡ 1 }
+        requires { takes_many kind ≡ false → n ≡ 1 }
         ensures { point_of self.new ≡ arrived (point_of self.old) n };
 
     /// Counts one member more, where one lives.

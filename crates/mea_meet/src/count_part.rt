@@ -1,29 +1,33 @@
-ghost use Rattle.std.specs.Prelude.{ℕ, ◌≡◌, ◌≢◌, ◌<◌, ◌≤◌, ◌==◌, cond, OnErr, IfOk, IfSome, IsSome, is_some, None, Some, true, false};
+ghost use Rattle.std.specs.Prelude.{ℕ, ◌≡◌, ◌≢◌, ◌<◌, ◌≤◌, ◌==◌, cond, IfSome, IsSome, is_some, None, Some, true, false, OnOk, OnErr, if◌then◌else◌};
 ghost use Rattle.std.specs.FinMap as map;
 ghost use Rattle.mea_family.specs.Causes.{borrowed_by};
 ghost use Rattle.mea_family.specs.Forms.{is_plain};
-ghost use Rattle.mea_family.specs.Play.{PartYields, PartRests};
+ghost use Rattle.mea_family.specs.Play.{PartYields};
 ghost use Rattle.mea_meet_model.specs.Counts as counts;
 ghost use Rattle.mea_meet_model.specs.Counts.{Point, Wait, no_counts, is_holder, is_sender, is_wait, borrowers_of, borrows, registered};
-ghost use Rattle.mea_meet_model.specs.CountActions.{is_counted, join_cause, act_in, end_by, leave_by, cause_in, Make, Number, Try, Now, Arrive, Begin, Join, Watch, Into, EndHolder, Copy, Poll as PollIt, EndWait, EndEither, CopySender, Send, Await, EndSender};
-ghost use Rattle.mea_meet_model.specs.Valid.{HasCounts, BorrowNothing};
-ghost use Rattle.mea_meet.specs.CountParts.{IsFresh, new_of, given_back};
+ghost use Rattle.mea_meet_model.specs.CountActions.{is_counted, join_cause, overflow_at, leave_by, cause_in, Make, Number, Try, Now, Arrive, Begin, Join, Watch, Into, EndHolder, Copy, Poll as PollIt, EndWait, EndEither, CopySender, Send, Await, EndSender};
+ghost use Rattle.mea_meet_model.specs.Valid.{BorrowNothing};
+ghost use Rattle.mea_meet.specs.Actions.{new_seen, count_action, takes_many, lends, IsNewOf, FitsKind};
+ghost use Rattle.mea_family.specs.Acts.{ActsQuietly};
+ghost use Rattle.mea_meet.specs.CountParts.{given_back};
 ghost use Rattle.mea_meet.specs.CountLends.{StandsFor};
+ghost use Rattle.mea_meet.specs.Halls.{CountActs, CountActsQuietly};
 
+use crate::actions::CountAction;
 use crate::count_core::{CountCore, NumberedCore};
-use crate::count_wait::{CountWait, borrowed_if};
+use crate::count_wait::borrowed_if;
 use crate::holder_entry::HolderEntry;
+use crate::new_point::NewPoint;
 use crate::point_entry::PointEntry;
 use crate::wait_entry::WaitEntry;
 use mea_base::{NoMemory, Poll, Ready};
 use mea_by_name::ByName;
-use mea_family::{Answer, Form, Stop, one_if, overflow_if, yes_if};
-use mea_meet_core::{GroupWait, LatchWait};
+use mea_family::{Answer, Form, Stop, one_if, overflow_if, unknown_unless, yes_if};
 use std::alloc::Global;
 use std::marker::Model;
 
 /// The meeting points of one kind that count, with their senders, holders and futures, each by the number of the
-/// event that made it. Each call costs a look-up by name and the wakers that it makes ready.
+/// event that made it. Each call costs a few look-ups by name and the wakers that it makes ready.
 ///
 /// A point stays while one of them lives.
 #[derive(Drop)]
@@ -34,6 +38,7 @@ pub struct CountPart<C: CountCore> {
     holders: ByName<HolderEntry>,
     waits: ByName<WaitEntry>,
     next: u128,
+    alloc: Global,
 }
 
 impl<C: CountCore> Model for CountPart<C> {
@@ -61,6 +66,14 @@ fn give_back(holders: &mut ByName<HolderEntry>, borrowed: Option<u64>)
     }
 }
 
+// Puts a thing at a name, where it is to be there. On an error nothing has changed.
+fn insert_if(things: &mut ByName<u64>, put: bool, name: u64, x: u64) -> Result<(), NoMemory>
+    ensures ok { OnOk result (things.new ≡ (if put then map.insert things.old name x else things.old)) }
+    ensures err { OnErr result (things.new ≡ things.old) }
+{
+    if put { things.insert(name, x) } else { Ok(()) }
+}
+
 impl<C: CountCore> CountPart<C> {
     /// No point. It takes no memory.
     pub fn new(alloc: Global) -> Self
@@ -72,17 +85,11 @@ impl<C: CountCore> CountPart<C> {
             holders: ByName::new(alloc),
             waits: ByName::new(alloc),
             next: 0,
+            alloc,
         }
     }
 
-    /// What holds of the points after each event. It does nothing.
-    pub fn are_valid(&self)
-        ensures { HasCounts self.now.hall self.now.next }
-    {
-        let _next = self.next;
-    }
-
-    /// The core of a point that is there.
+    /// The core of a point that is there. It takes no memory.
     pub fn core(&self, o: u64) -> Option<&C>
         ensures there { is_some result ≡ is_some (map.get self.now.hall.points o) }
         ensures stands { IfSome result (λ core. StandsFor self.now.hall o (C.point_of core.now)) }
@@ -91,26 +98,80 @@ impl<C: CountCore> CountPart<C> {
         Some(entry.core())
     }
 
+    /// Whether it is a holder. It takes no memory.
     pub fn is_holder(&self, k: u64) -> bool
         ensures { result ≡ is_holder self.now.hall k }
     {
         self.holders.has(k)
     }
 
-    pub fn is_sender(&self, k: u64) -> bool
+    /// Why an action is refused; None where it is not. It takes no memory.
+    pub fn cause(&self, action: CountAction) -> Option<Stop>
+        ensures { result ≡ cause_in self.now.hall (count_action action) }
+    {
+        match action {
+            CountAction::Make(_) => None,
+            CountAction::Now(k) | CountAction::Arrive(k, _) => unknown_unless(self.is_holder(k)),
+            CountAction::Begin(k, _) | CountAction::Into(k) => unknown_unless(self.is_holder(k)),
+            CountAction::Join(k) => self.cause_of_join(k),
+            CountAction::Watch(k) => unknown_unless(self.is_counted(k)),
+            CountAction::EndHolder(k) => self.cause_of_end(k),
+            CountAction::Copy(f) | CountAction::Poll(f, _) => unknown_unless(self.is_wait(f)),
+            CountAction::EndWait(f) => unknown_unless(self.is_wait(f)),
+            CountAction::EndEither(x) => unknown_unless(self.is_holder(x) || self.is_wait(x)),
+            CountAction::CopySender(s) | CountAction::Send(s) => unknown_unless(self.is_sender(s)),
+            CountAction::Await(s) | CountAction::EndSender(s) => unknown_unless(self.is_sender(s)),
+        }
+    }
+
+    /// Does an action, or finds why it is refused. On an error nothing has changed. Memory is taken for what is made and by a
+    /// poll, and by no end.
+    pub fn act(
+        &mut self,
+        number: u64,
+        action: CountAction,
+        ready: &mut Ready<u64>,
+    ) -> Result<Answer, Stop>
+        requires next { self.old.next ≤ number }
+        requires fits { FitsKind C.kind action }
+        requires alone { lends C.kind ≡ false → BorrowNothing self.old.hall }
+        requires room { registered self.old.hall ≤ ready.old.registered }
+        ensures { CountActs self.old number (count_action action) result self.new ready.old ready.new }
+    {
+        match action {
+            CountAction::Make(new) => self.make(number, new),
+            CountAction::Now(k) => self.now(number, k),
+            CountAction::Arrive(k, n) => self.arrive(number, k, n, ready),
+            CountAction::Begin(k, form) => self.begin(number, k, form),
+            CountAction::Join(k) => self.join(number, k),
+            CountAction::Watch(k) => self.watch(number, k),
+            CountAction::Into(k) => self.into_wait(number, k, ready),
+            CountAction::EndHolder(k) => self.end_holder(number, k, ready),
+            CountAction::Copy(f) => self.copy(number, f),
+            CountAction::Poll(f, waker) => self.poll(number, f, waker, ready),
+            CountAction::EndWait(f) => self.end_wait(number, f, ready),
+            CountAction::EndEither(x) => self.end_either(number, x, ready),
+            CountAction::CopySender(s) => self.copy_sender(number, s),
+            CountAction::Send(s) => self.send(number, s, ready),
+            CountAction::Await(s) => self.await_members(number, s),
+            CountAction::EndSender(s) => self.end_sender(number, s, ready),
+        }
+    }
+
+    fn is_sender(&self, k: u64) -> bool
         ensures { result ≡ is_sender self.now.hall k }
     {
         self.senders.has(k)
     }
 
-    pub fn is_wait(&self, f: u64) -> bool
+    fn is_wait(&self, f: u64) -> bool
         ensures { result ≡ is_wait self.now.hall f }
     {
         self.waits.has(f)
     }
 
-    /// Whether it is a holder that is counted.
-    pub fn is_counted(&self, k: u64) -> bool
+    // Whether it is a holder that is counted.
+    fn is_counted(&self, k: u64) -> bool
         ensures { result ≡ is_counted (map.get self.now.hall.holders k) }
     {
         match self.holders.get(k) {
@@ -119,31 +180,20 @@ impl<C: CountCore> CountPart<C> {
         }
     }
 
-    /// Why a further holder is refused: the one beside it is unknown, or its point counts as many as it can.
-    pub fn cause_of_join(&self, k: u64) -> Option<Stop>
+    // Why a further holder is refused: the one beside it is unknown, or its point counts as many as it can.
+    fn cause_of_join(&self, k: u64) -> Option<Stop>
         ensures { result ≡ join_cause self.now.hall (map.get self.now.hall.holders k) }
     {
         match self.holders.get(k) {
-            Some(holder) => self.cause_at(holder),
+            Some(holder) => overflow_if(self.points.at(holder.point).is_full(holder.counted)),
             None => Some(Stop::Unknown),
         }
     }
 
-    // Why one more beside this holder is refused.
-    fn cause_at(&self, holder: &HolderEntry) -> Option<Stop>
-        requires { IsSome (map.get self.now.hall.points holder.now.point) }
-        ensures { result ≡ join_cause self.now.hall (Some (record { point = holder.now.point; counted = holder.now.counted })) }
-    {
-        if holder.counted {
-            overflow_if(self.points.at(holder.point).core().members() == u32::MAX)
-        } else {
-            None
-        }
-    }
-
-    /// Why the end of a holder is refused: it is unknown, or a plain future borrows it.
-    pub fn cause_of_end(&self, k: u64) -> Option<Stop>
-        ensures { result ≡ borrowed_by (is_holder self.now.hall k) (borrowers_of self.now.hall k) }
+    // Why the end of a holder is refused: it is unknown, or a plain future borrows it.
+    fn cause_of_end(&self, k: u64) -> Option<Stop>
+        ensures is { result ≡ borrowed_by (is_holder self.now.hall k) (borrowers_of self.now.hall k) }
+        ensures tells { result ≢ Some Stop.NoMemory }
     {
         match self.holders.get(k) {
             Some(holder) => mea_family::borrowed_if(holder.borrowers > 0),
@@ -151,211 +201,184 @@ impl<C: CountCore> CountPart<C> {
         }
     }
 
-    /// Makes a point of a new core, with its first holder. On an error nothing has changed.
-    pub fn make(&mut self, number: u64, core: C, counted: bool) -> Result<Answer, NoMemory>
+    // Makes a point, with its first holder, and a sender where it has one. On an error nothing has changed.
+    fn make(&mut self, number: u64, new: NewPoint) -> Result<Answer, Stop>
         requires next { self.old.next ≤ number }
-        requires new { IsFresh (C.point_of core) }
-        requires fair { (C.point_of core).receivers.number ≡ cond counted 1 0 }
-        ensures ok { IfOk result (λ answer. PartRests registered self.old number (act_in self.old.hall number (Make (new_of (C.point_of core) counted false))) answer self.new) }
-        ensures err { OnErr result (self.new ≡ self.old) }
+        requires fits { IsNewOf C.kind (new_seen new) }
+        ensures { CountActsQuietly self.old number (Make (new_seen new)) result self.new }
     {
         let holder = HolderEntry {
             point: number,
-            counted,
+            counted: new.counted,
             borrowers: 0,
         };
         let Ok(()) = self.holders.insert(number, holder) else {
-            return Err(NoMemory);
+            return Err(Stop::NoMemory);
         };
-        let Ok(()) = self.points.insert(number, PointEntry::new(core, 1)) else {
+        let Ok(()) = insert_if(&mut self.senders, new.sends, number, number) else {
             let _ = self.holders.remove(number);
-            return Err(NoMemory);
+            return Err(Stop::NoMemory);
+        };
+        let entry = PointEntry::new(C::make(self.alloc, new), new.sends);
+        let Ok(()) = self.points.insert(number, entry) else {
+            let _ = self.holders.remove(number);
+            self.senders.remove_if(number, new.sends);
+            return Err(Stop::NoMemory);
         };
         self.next = number as u128 + 1;
         Ok(Answer::Made)
     }
 
-    /// Makes a point of a new core, with its first holder, which is counted, and a sender. On an error nothing has
-    /// changed.
-    pub fn open(&mut self, number: u64, core: C) -> Result<Answer, NoMemory>
-        requires next { self.old.next ≤ number }
-        requires new { IsFresh (C.point_of core) }
-        requires fair { (C.point_of core).receivers.number ≡ 1 }
-        ensures ok { IfOk result (λ answer. PartRests registered self.old number (act_in self.old.hall number (Make (new_of (C.point_of core) true true))) answer self.new) }
-        ensures err { OnErr result (self.new ≡ self.old) }
+    // Tells whether the signal is set. It takes no memory.
+    fn now(&mut self, number: u64, k: u64) -> Result<Answer, Stop>
+        requires { self.old.next ≤ number }
+        ensures { CountActsQuietly self.old number (Now k) result self.new }
     {
-        let holder = HolderEntry {
-            point: number,
-            counted: true,
-            borrowers: 0,
+        let Some(holder) = self.holders.get(k) else {
+            return Err(Stop::Unknown);
         };
-        let Ok(()) = self.holders.insert(number, holder) else {
-            return Err(NoMemory);
-        };
-        let Ok(()) = self.senders.insert(number, number) else {
-            let _ = self.holders.remove(number);
-            return Err(NoMemory);
-        };
-        let Ok(()) = self.points.insert(number, PointEntry::new(core, 2)) else {
-            let _ = self.holders.remove(number);
-            let _ = self.senders.remove(number);
-            return Err(NoMemory);
-        };
+        let set = self.points.at(holder.point).core().is_set();
         self.next = number as u128 + 1;
-        Ok(Answer::Made)
+        Ok(yes_if(set))
     }
 
-    /// Tells whether the signal is set. It takes no memory.
-    pub fn now(&mut self, number: u64, k: u64) -> Answer
+    // Takes `n` from the signal, by a holder. It takes no memory.
+    fn arrive(
+        &mut self,
+        number: u64,
+        k: u64,
+        n: u32,
+        ready: &mut Ready<u64>,
+    ) -> Result<Answer, Stop>
         requires next { self.old.next ≤ number }
-        requires there { is_holder self.old.hall k ≡ true }
-        ensures { PartRests registered self.old number (act_in self.old.hall number (Now k)) result self.new }
-    {
-        let o = self.holders.at(k).point;
-        let set = self.points.at(o).core().is_set();
-        self.next = number as u128 + 1;
-        yes_if(set)
-    }
-
-    /// Takes `n` from the signal, by a holder. It takes no memory.
-    pub fn arrive(&mut self, number: u64, k: u64, n: u32, ready: &mut Ready<u64>) -> Answer
-        requires next { self.old.next ≤ number }
-        requires most { C.takes_many ≡ true }
-        requires there { is_holder self.old.hall k ≡ true }
+        requires most { takes_many C.kind ≡ true }
         requires room { registered self.old.hall ≤ ready.old.registered }
-        ensures { PartYields registered self.old number (act_in self.old.hall number (Arrive k n)) result self.new ready.old ready.new }
+        ensures { CountActs self.old number (Arrive k n) result self.new ready.old ready.new }
     {
-        let o = self.holders.at(k).point;
-        self.points.at_mut(o).arrive(n, ready);
+        let Some(holder) = self.holders.get(k) else {
+            return Err(Stop::Unknown);
+        };
+        self.points.at_mut(holder.point).arrive(n, ready);
         self.next = number as u128 + 1;
-        Answer::Done
+        Ok(Answer::Done)
     }
 
-    /// Sets the signal, by a sender. It takes no memory.
-    pub fn send(&mut self, number: u64, k: u64, ready: &mut Ready<u64>) -> Answer
+    // Sets the signal, by a sender. It takes no memory.
+    fn send(&mut self, number: u64, s: u64, ready: &mut Ready<u64>) -> Result<Answer, Stop>
         requires next { self.old.next ≤ number }
-        requires there { is_sender self.old.hall k ≡ true }
         requires room { registered self.old.hall ≤ ready.old.registered }
-        ensures { PartYields registered self.old number (act_in self.old.hall number (Send k)) result self.new ready.old ready.new }
+        ensures { CountActs self.old number (Send s) result self.new ready.old ready.new }
     {
-        let o = *self.senders.at(k);
-        self.points.at_mut(o).arrive(1, ready);
+        let Some(o) = self.senders.get(s) else {
+            return Err(Stop::Unknown);
+        };
+        self.points.at_mut(*o).arrive(1, ready);
         self.next = number as u128 + 1;
-        Answer::Done
+        Ok(Answer::Done)
     }
 
-    /// Makes a future on the signal; a plain one borrows the holder. On an error nothing has changed.
-    pub fn begin(&mut self, number: u64, k: u64, form: Form) -> Result<Answer, NoMemory>
-        requires next { self.old.next ≤ number }
-        requires there { is_holder self.old.hall k ≡ true }
-        ensures ok { IfOk result (λ answer. PartRests registered self.old number (act_in self.old.hall number (Begin k (is_plain form))) answer self.new) }
-        ensures err { OnErr result (self.new ≡ self.old) }
+    // Makes a future on the signal; a plain one borrows the holder. On an error nothing has changed.
+    fn begin(&mut self, number: u64, k: u64, form: Form) -> Result<Answer, Stop>
+        requires { self.old.next ≤ number }
+        ensures { CountActsQuietly self.old number (Begin k (is_plain form)) result self.new }
     {
         let plain = form.is_plain();
-        let o = self.holders.at(k).point;
-        let wait = CountWait::Signal {
-            wait: LatchWait::new(),
-            borrowed: borrowed_if(plain, k),
+        let Some(holder) = self.holders.get_mut(k) else {
+            return Err(Stop::Unknown);
         };
-        let Ok(()) = self.waits.insert(number, WaitEntry { point: o, wait }) else {
-            return Err(NoMemory);
+        let future = WaitEntry::on_signal(holder.point, borrowed_if(plain, k));
+        let Ok(()) = self.waits.insert(number, future) else {
+            return Err(Stop::NoMemory);
         };
-        self.holders.at_mut(k).borrowers += one_if(plain);
+        holder.borrowers += one_if(plain);
+        self.points.at_mut(holder.point).begin();
+        self.next = number as u128 + 1;
+        Ok(Answer::Made)
+    }
+
+    // Makes a further future on the end of the members, beside another. On an error nothing has changed.
+    fn copy(&mut self, number: u64, f: u64) -> Result<Answer, Stop>
+        requires { self.old.next ≤ number }
+        ensures { CountActsQuietly self.old number (Copy f) result self.new }
+    {
+        let Some(other) = self.waits.get(f) else {
+            return Err(Stop::Unknown);
+        };
+        let o = other.point;
+        let Ok(()) = self.waits.insert(number, WaitEntry::on_members(o)) else {
+            return Err(Stop::NoMemory);
+        };
         self.points.at_mut(o).begin();
         self.next = number as u128 + 1;
         Ok(Answer::Made)
     }
 
-    /// Makes a further future on the end of the members, beside another. On an error nothing has changed.
-    pub fn copy(&mut self, number: u64, f: u64) -> Result<Answer, NoMemory>
-        requires next { self.old.next ≤ number }
-        requires there { is_wait self.old.hall f ≡ true }
-        ensures ok { IfOk result (λ answer. PartRests registered self.old number (act_in self.old.hall number (Copy f)) answer self.new) }
-        ensures err { OnErr result (self.new ≡ self.old) }
+    // Makes a further holder, counted as the one beside it. On an error nothing has changed.
+    fn join(&mut self, number: u64, k: u64) -> Result<Answer, Stop>
+        requires { self.old.next ≤ number }
+        ensures { CountActsQuietly self.old number (Join k) result self.new }
     {
-        let o = self.waits.at(f).point;
-        let wait = CountWait::Members {
-            wait: GroupWait::new(),
+        let Some(holder) = self.holders.get(k) else {
+            return Err(Stop::Unknown);
         };
-        let Ok(()) = self.waits.insert(number, WaitEntry { point: o, wait }) else {
-            return Err(NoMemory);
-        };
-        self.points.at_mut(o).begin();
-        self.next = number as u128 + 1;
-        Ok(Answer::Made)
-    }
-
-    /// Makes a further holder, counted as the one beside it. On an error nothing has changed.
-    pub fn join(&mut self, number: u64, k: u64) -> Result<Answer, NoMemory>
-        requires next { self.old.next ≤ number }
-        requires allowed { cause_in self.old.hall (Join k) ≡ None }
-        ensures ok { IfOk result (λ answer. PartRests registered self.old number (act_in self.old.hall number (Join k)) answer self.new) }
-        ensures err { OnErr result (self.new ≡ self.old) }
-    {
-        let holder = *self.holders.at(k);
+        let holder = *holder;
         self.add(number, holder.point, holder.counted)
     }
 
-    /// Makes a further holder that is not counted. On an error nothing has changed.
-    pub fn watch(&mut self, number: u64, k: u64) -> Result<Answer, NoMemory>
-        requires next { self.old.next ≤ number }
-        requires there { is_counted (map.get self.old.hall.holders k) ≡ true }
-        ensures ok { IfOk result (λ answer. PartRests registered self.old number (act_in self.old.hall number (Watch k)) answer self.new) }
-        ensures err { OnErr result (self.new ≡ self.old) }
+    // Makes a further holder that is not counted, beside one that is. On an error nothing has changed.
+    fn watch(&mut self, number: u64, k: u64) -> Result<Answer, Stop>
+        requires { self.old.next ≤ number }
+        ensures { CountActsQuietly self.old number (Watch k) result self.new }
     {
-        let o = self.holders.at(k).point;
+        let Some(holder) = self.holders.get(k) else {
+            return Err(Stop::Unknown);
+        };
+        if !holder.counted {
+            return Err(Stop::Unknown);
+        }
+        let o = holder.point;
         self.add(number, o, false)
     }
 
-    // Makes a holder of a point.
-    fn add(&mut self, number: u64, o: u64, counted: bool) -> Result<Answer, NoMemory>
+    // Makes a holder of a point, unless that counts as many as it can.
+    fn add(&mut self, number: u64, o: u64, counted: bool) -> Result<Answer, Stop>
         requires next { self.old.next ≤ number }
         requires there { IsSome (map.get self.old.hall.points o) }
-        requires room { counted ≡ true → IfSome (map.get self.old.hall.points o) (λ r. (0 < r.members.number) × (r.members.number ≢ 4294967295)) }
-        ensures ok { IfOk result (λ answer. (r : Point) → map.get self.old.hall.points o ≡ Some r → PartRests registered self.old number (counts.join self.old.hall number o counted r) answer self.new) }
-        ensures err { OnErr result (self.new ≡ self.old) }
+        requires lives { counted ≡ true → IfSome (map.get self.old.hall.points o) (λ r. 0 < r.members.number) }
+        ensures { (r : Point) → map.get self.old.hall.points o ≡ Some r → ActsQuietly registered (if counted then overflow_at r.members.number else None) ⊥ self.old number (counts.join self.old.hall number o counted r) result self.new }
     {
+        let entry = self.points.at_mut(o);
+        if entry.is_full(counted) {
+            return Err(Stop::Overflow);
+        }
         let holder = HolderEntry {
             point: o,
             counted,
             borrowers: 0,
         };
         let Ok(()) = self.holders.insert(number, holder) else {
-            return Err(NoMemory);
+            return Err(Stop::NoMemory);
         };
-        self.points.at_mut(o).join(counted);
+        entry.join(counted);
         self.next = number as u128 + 1;
         Ok(Answer::Made)
     }
 
-    /// Makes a future on the end of the members of a holder, which ends. No future borrows one. On an error nothing has
-    /// changed.
-    pub fn into_wait(
-        &mut self,
-        number: u64,
-        k: u64,
-        ready: &mut Ready<u64>,
-    ) -> Result<Answer, NoMemory>
+    // Makes a future on the end of the members of a holder, which ends. No future borrows one. On an error nothing has
+    // changed.
+    fn into_wait(&mut self, number: u64, k: u64, ready: &mut Ready<u64>) -> Result<Answer, Stop>
         requires next { self.old.next ≤ number }
-        requires there { is_holder self.old.hall k ≡ true }
         requires free { BorrowNothing self.old.hall }
         requires room { registered self.old.hall ≤ ready.old.registered }
-        ensures ok { IfOk result (λ answer. PartYields registered self.old number (act_in self.old.hall number (Into k)) answer self.new ready.old ready.new) }
-        ensures err { OnErr result ((self.new ≡ self.old) × (ready.new ≡ ready.old)) }
+        ensures { CountActs self.old number (Into k) result self.new ready.old ready.new }
     {
-        let holder = *self.holders.at(k);
-        let wait = CountWait::Members {
-            wait: GroupWait::new(),
+        let Some(holder) = self.holders.get(k) else {
+            return Err(Stop::Unknown);
         };
-        let Ok(()) = self.waits.insert(
-            number,
-            WaitEntry {
-                point: holder.point,
-                wait,
-            },
-        )
-        else {
-            return Err(NoMemory);
+        let holder = *holder;
+        let future = WaitEntry::on_members(holder.point);
+        let Ok(()) = self.waits.insert(number, future) else {
+            return Err(Stop::NoMemory);
         };
         let _ = self.holders.remove(k);
         self.points.at_mut(holder.point).part(holder.counted, ready);
@@ -363,8 +386,20 @@ impl<C: CountCore> CountPart<C> {
         Ok(Answer::Made)
     }
 
-    /// Ends a holder that no future borrows. It takes no memory.
-    pub fn end_holder(&mut self, number: u64, k: u64, ready: &mut Ready<u64>) -> Answer
+    // Ends a holder that no future borrows. It takes no memory.
+    fn end_holder(&mut self, number: u64, k: u64, ready: &mut Ready<u64>) -> Result<Answer, Stop>
+        requires next { self.old.next ≤ number }
+        requires room { registered self.old.hall ≤ ready.old.registered }
+        ensures { CountActs self.old number (EndHolder k) result self.new ready.old ready.new }
+    {
+        if let Some(stop) = self.cause_of_end(k) {
+            return Err(stop);
+        }
+        Ok(self.leave(number, k, ready))
+    }
+
+    // Ends a holder that is there, and that no future borrows. It takes no memory.
+    fn leave(&mut self, number: u64, k: u64, ready: &mut Ready<u64>) -> Answer
         requires next { self.old.next ≤ number }
         requires there { is_holder self.old.hall k ≡ true }
         requires free { (f : ℕ) (y : Wait) → map.get self.old.hall.waits f ≡ Some y → borrows y.awaits k ≡ false }
@@ -374,149 +409,150 @@ impl<C: CountCore> CountPart<C> {
         let holder = self.holders.remove(k);
         let entry = self.points.at_mut(holder.point);
         entry.part(holder.counted, ready);
-        entry.finish();
-        let over = entry.release(ready);
+        let over = entry.finish(ready);
         self.points.remove_if(holder.point, over);
         self.next = number as u128 + 1;
         Answer::Done
     }
 
-    /// Polls a future, which is gone where it is ready. On an error nothing has changed.
-    pub fn poll(
+    // Polls a future, which is gone where it is ready. On an error nothing has changed.
+    fn poll(
         &mut self,
         number: u64,
         f: u64,
         waker: u64,
         ready: &mut Ready<u64>,
-    ) -> Result<Answer, NoMemory>
+    ) -> Result<Answer, Stop>
         requires next { self.old.next ≤ number }
-        requires there { is_wait self.old.hall f ≡ true }
         requires room { registered self.old.hall ≤ ready.old.registered }
-        ensures ok { IfOk result (λ answer. PartYields registered self.old number (act_in self.old.hall number (PollIt f waker)) answer self.new ready.old ready.new) }
-        ensures err { OnErr result ((self.new ≡ self.old) × (ready.new ≡ ready.old)) }
+        ensures { CountActs self.old number (PollIt f waker) result self.new ready.old ready.new }
     {
-        let future = self.waits.at_mut(f);
-        let entry = self.points.at_mut(future.point);
+        let Some(future) = self.waits.get_mut(f) else {
+            return Err(Stop::Unknown);
+        };
+        let o = future.point;
+        let entry = self.points.at_mut(o);
         match entry.poll(f, &mut future.wait, waker, ready) {
-            Err(_) => Err(NoMemory),
+            Err(_) => Err(Stop::NoMemory),
             Ok(Poll::Pending) => {
                 self.next = number as u128 + 1;
                 Ok(Answer::Pending)
             }
             Ok(Poll::Ready(())) => {
-                let _done = self.end_wait(number, f, ready);
+                give_back(&mut self.holders, future.wait.borrowed());
+                let over = entry.finish(ready);
+                self.points.remove_if(o, over);
+                let _ = self.waits.remove(f);
+                self.next = number as u128 + 1;
                 Ok(Answer::Ready)
             }
         }
     }
 
-    /// Ends a future; its waker stays while its point does. It takes no memory.
-    pub fn end_wait(&mut self, number: u64, f: u64, ready: &mut Ready<u64>) -> Answer
+    // Ends a future; its waker stays while its point does. It takes no memory.
+    fn end_wait(&mut self, number: u64, f: u64, ready: &mut Ready<u64>) -> Result<Answer, Stop>
         requires next { self.old.next ≤ number }
-        requires there { is_wait self.old.hall f ≡ true }
         requires room { registered self.old.hall ≤ ready.old.registered }
-        ensures { PartYields registered self.old number (end_by self.old.hall f) result self.new ready.old ready.new }
+        ensures { CountActs self.old number (EndWait f) result self.new ready.old ready.new }
     {
-        let future = self.waits.remove(f);
+        let Some(future) = self.waits.take(f) else {
+            return Err(Stop::Unknown);
+        };
         give_back(&mut self.holders, future.wait.borrowed());
-        let entry = self.points.at_mut(future.point);
-        entry.finish();
-        let over = entry.release(ready);
+        let over = self.points.at_mut(future.point).finish(ready);
         self.points.remove_if(future.point, over);
         self.next = number as u128 + 1;
-        Answer::Done
+        Ok(Answer::Done)
     }
 
-    /// Ends a holder, or else a future, where no future borrows a holder. It takes no memory.
-    pub fn end_either(&mut self, number: u64, x: u64, ready: &mut Ready<u64>) -> Answer
+    // Ends a holder, or else a future, where no future borrows a holder. It takes no memory.
+    fn end_either(&mut self, number: u64, x: u64, ready: &mut Ready<u64>) -> Result<Answer, Stop>
         requires next { self.old.next ≤ number }
-        requires there { is_holder self.old.hall x ≡ false → is_wait self.old.hall x ≡ true }
         requires free { BorrowNothing self.old.hall }
         requires room { registered self.old.hall ≤ ready.old.registered }
-        ensures { PartYields registered self.old number (act_in self.old.hall number (EndEither x)) result self.new ready.old ready.new }
+        ensures { CountActs self.old number (EndEither x) result self.new ready.old ready.new }
     {
         if self.is_holder(x) {
-            self.end_holder(number, x, ready)
+            Ok(self.leave(number, x, ready))
         } else {
             self.end_wait(number, x, ready)
         }
     }
 
-    /// Makes a further sender. On an error nothing has changed.
-    pub fn copy_sender(&mut self, number: u64, k: u64) -> Result<Answer, NoMemory>
-        requires next { self.old.next ≤ number }
-        requires there { is_sender self.old.hall k ≡ true }
-        ensures ok { IfOk result (λ answer. PartRests registered self.old number (act_in self.old.hall number (CopySender k)) answer self.new) }
-        ensures err { OnErr result (self.new ≡ self.old) }
+    // Makes a further sender. On an error nothing has changed.
+    fn copy_sender(&mut self, number: u64, s: u64) -> Result<Answer, Stop>
+        requires { self.old.next ≤ number }
+        ensures { CountActsQuietly self.old number (CopySender s) result self.new }
     {
-        let o = *self.senders.at(k);
+        let Some(o) = self.senders.get(s) else {
+            return Err(Stop::Unknown);
+        };
+        let o = *o;
         let Ok(()) = self.senders.insert(number, o) else {
-            return Err(NoMemory);
+            return Err(Stop::NoMemory);
         };
         self.points.at_mut(o).begin();
         self.next = number as u128 + 1;
         Ok(Answer::Made)
     }
 
-    /// Makes a future on the end of the members of a sender, which ends. On an error nothing has changed.
-    pub fn await_members(&mut self, number: u64, k: u64) -> Result<Answer, NoMemory>
-        requires next { self.old.next ≤ number }
-        requires there { is_sender self.old.hall k ≡ true }
-        ensures ok { IfOk result (λ answer. PartRests registered self.old number (act_in self.old.hall number (Await k)) answer self.new) }
-        ensures err { OnErr result (self.new ≡ self.old) }
+    // Makes a future on the end of the members of a sender, which ends. On an error nothing has changed.
+    fn await_members(&mut self, number: u64, s: u64) -> Result<Answer, Stop>
+        requires { self.old.next ≤ number }
+        ensures { CountActsQuietly self.old number (Await s) result self.new }
     {
-        let o = *self.senders.at(k);
-        let wait = CountWait::Members {
-            wait: GroupWait::new(),
+        let Some(o) = self.senders.get(s) else {
+            return Err(Stop::Unknown);
         };
-        let Ok(()) = self.waits.insert(number, WaitEntry { point: o, wait }) else {
-            return Err(NoMemory);
+        let Ok(()) = self.waits.insert(number, WaitEntry::on_members(*o)) else {
+            return Err(Stop::NoMemory);
         };
-        let _ = self.senders.remove(k);
+        let _ = self.senders.remove(s);
         self.next = number as u128 + 1;
         Ok(Answer::Made)
     }
 
-    /// Ends a sender. It takes no memory.
-    pub fn end_sender(&mut self, number: u64, k: u64, ready: &mut Ready<u64>) -> Answer
+    // Ends a sender. It takes no memory.
+    fn end_sender(&mut self, number: u64, s: u64, ready: &mut Ready<u64>) -> Result<Answer, Stop>
         requires next { self.old.next ≤ number }
-        requires there { is_sender self.old.hall k ≡ true }
         requires room { registered self.old.hall ≤ ready.old.registered }
-        ensures { PartYields registered self.old number (act_in self.old.hall number (EndSender k)) result self.new ready.old ready.new }
+        ensures { CountActs self.old number (EndSender s) result self.new ready.old ready.new }
     {
-        let o = self.senders.remove(k);
-        let entry = self.points.at_mut(o);
-        entry.finish();
-        let over = entry.release(ready);
+        let Some(o) = self.senders.take(s) else {
+            return Err(Stop::Unknown);
+        };
+        let over = self.points.at_mut(o).finish(ready);
         self.points.remove_if(o, over);
         self.next = number as u128 + 1;
-        Answer::Done
+        Ok(Answer::Done)
     }
 }
 
 impl<C: NumberedCore> CountPart<C> {
-    /// Tells the count of the signal. It takes no memory.
-    pub fn number(&mut self, number: u64, k: u64) -> Answer
-        requires next { self.old.next ≤ number }
-        requires there { is_holder self.old.hall k ≡ true }
-        ensures { PartRests registered self.old number (act_in self.old.hall number (Number k)) result self.new }
+    /// Tells the count of the signal, or finds why that is refused. It takes no memory.
+    pub fn number(&mut self, number: u64, k: u64) -> Result<Answer, Stop>
+        requires { self.old.next ≤ number }
+        ensures { CountActsQuietly self.old number (Number k) result self.new }
     {
-        let o = self.holders.at(k).point;
-        let count = self.points.at(o).core().number();
+        let Some(holder) = self.holders.get(k) else {
+            return Err(Stop::Unknown);
+        };
+        let count = self.points.at(holder.point).core().number();
         self.next = number as u128 + 1;
-        Answer::Count(count as u64)
+        Ok(Answer::Count(count as u64))
     }
 
-    /// Tells whether the count of the signal is 0, or else how much it is. It takes no memory.
-    pub fn try_wait(&mut self, number: u64, k: u64) -> Answer
-        requires next { self.old.next ≤ number }
-        requires there { is_holder self.old.hall k ≡ true }
-        ensures { PartRests registered self.old number (act_in self.old.hall number (Try k)) result self.new }
+    /// Tells whether the count of the signal is 0, or else how much it is, or finds why that is refused. It takes no memory.
+    pub fn try_wait(&mut self, number: u64, k: u64) -> Result<Answer, Stop>
+        requires { self.old.next ≤ number }
+        ensures { CountActsQuietly self.old number (Try k) result self.new }
     {
-        let o = self.holders.at(k).point;
-        let count = self.points.at(o).core().number();
+        let Some(holder) = self.holders.get(k) else {
+            return Err(Stop::Unknown);
+        };
+        let count = self.points.at(holder.point).core().number();
         self.next = number as u128 + 1;
-        accepted_at(count as u64)
+        Ok(accepted_at(count as u64))
     }
 }
 

@@ -5,6 +5,7 @@ ghost use Rattle.mea_meet.specs.BarrierParts.{StandsForBarrier};
 ghost use Rattle.mea_meet.specs.CountLends.{is_named, StandsForLatch, StandsForGroup, StandsForShutdown};
 
 use crate::kinds::Kinds;
+use crate::meaning::meaning_of;
 use mea_base::Ready;
 use mea_by_name::NamedWaker;
 use mea_events::MeetEvent;
@@ -36,7 +37,7 @@ pub type MeetHall = FamilyHall<MeetFamily, MeetModel>;
 /// of the event that made it. One number may name things of different kinds.
 ///
 /// Each object is a core of its own; a future keeps its wait. Its waker carries the future's name, so the core's set
-/// tells who waits. Each event costs a look-up by name and the wakers that it makes ready.
+/// tells who waits. Each event costs a few look-ups by name and the wakers that it makes ready.
 #[derive(Drop)]
 pub struct MeetFamily {
     kinds: Kinds,
@@ -140,7 +141,7 @@ impl Family<MeetModel> for MeetFamily {
     }
 
     fn cause(&self, event: &MeetEvent) -> Option<Stop> {
-        self.kinds.cause(event)
+        self.kinds.cause(meaning_of(event))
     }
 
     fn act(
@@ -151,10 +152,7 @@ impl Family<MeetModel> for MeetFamily {
     ) -> Result<Answer, Stop> {
         validity_is_kept();
         wakes_are_of_the_registered();
-        if let Some(stop) = self.kinds.cause(event) {
-            return Err(stop);
-        }
-        let answer = self.kinds.play(number, event, ready)?;
+        let answer = self.kinds.act(number, meaning_of(event), ready)?;
         self.next = number as u128 + 1;
         Ok(answer)
     }

@@ -1,16 +1,22 @@
 use crate::count_core::CountCore;
+use crate::new_point::NewPoint;
 use mea_base::{NoMemory, Poll};
 use mea_by_name::NamedWaker;
 use mea_meet_core::{GroupCore, GroupWait, LatchWait};
+use std::alloc::Global;
 
 impl CountCore for GroupCore<NamedWaker> {
     ghost use Rattle.mea_meet.specs.CountCores.{group_seen};
 
     ghost point_of = { group_seen };
 
-    ghost use Rattle.std.specs.Prelude.{false};
+    ghost use Rattle.mea_meet_model.specs.Hall.{Groups};
 
-    ghost takes_many = { false };
+    ghost kind = { Groups };
+
+    fn make(alloc: Global, _new: NewPoint) -> Self {
+        GroupCore::new(alloc)
+    }
 
     fn is_set(&self) -> bool {
         true
@@ -35,19 +41,11 @@ impl CountCore for GroupCore<NamedWaker> {
     fn arrive(&mut self, _n: u32) {}
 
     fn add(&mut self) {
-        if self.handles() == 0 {
-            return;
-        }
-        match GroupCore::add(self) {
-            Err(_) => unreachable!(),
-            Ok(()) => {}
-        }
+        let _ = self.add_checked();
     }
 
     fn leave(&mut self) {
-        if self.handles() > 0 {
-            GroupCore::leave(self);
-        }
+        self.leave_checked();
     }
 
     fn poll_signal(

@@ -1,16 +1,22 @@
 use crate::count_core::{CountCore, NumberedCore};
+use crate::new_point::NewPoint;
 use mea_base::{NoMemory, Poll};
 use mea_by_name::NamedWaker;
 use mea_meet_core::{GroupWait, LatchCore, LatchWait};
+use std::alloc::Global;
 
 impl CountCore for LatchCore<NamedWaker> {
     ghost use Rattle.mea_meet.specs.CountCores.{latch_seen};
 
     ghost point_of = { latch_seen };
 
-    ghost use Rattle.std.specs.Prelude.{true};
+    ghost use Rattle.mea_meet_model.specs.Hall.{Latches};
 
-    ghost takes_many = { true };
+    ghost kind = { Latches };
+
+    fn make(alloc: Global, new: NewPoint) -> Self {
+        LatchCore::new(alloc, new.signal)
+    }
 
     fn is_set(&self) -> bool {
         self.count() == 0

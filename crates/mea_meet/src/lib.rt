@@ -3,6 +3,7 @@
 //! knows the cores by their contracts alone.
 #![tactic(auto)]
 
+mod actions;
 mod barrier_entry;
 mod barrier_part;
 mod count_core;
@@ -13,6 +14,8 @@ mod groups;
 mod holder_entry;
 mod kinds;
 mod latches;
+mod meaning;
+mod new_point;
 mod point_entry;
 mod shutdowns;
 mod wait_entry;

@@ -1,6 +1,7 @@
 ghost use Rattle.std.specs.Prelude.{◌≡◌, ◌≢◌, ◌+◌, ◌-◌, ◌<◌, ◌≤◌, ◌^◌, ◌==◌, ◌++◌, [], length, map, true, false, if◌then◌else◌, OnErr, IfOk};
 ghost use Rattle.mea_sets.specs.WaitSet.{has_given};
 ghost use Rattle.mea_meet.specs.CountCores.{arrived, joined, parted, handed_on, count_at, kept_by};
+ghost use Rattle.mea_meet.specs.Actions.{takes_many};
 ghost use Rattle.mea_meet.specs.CountWaits.{end_of, slot_of};
 
 use crate::count_core::CountCore;
@@ -28,19 +29,29 @@ impl<C: CountCore> Model for PointEntry<C> {
 }
 
 impl<C: CountCore> PointEntry<C> {
-    ghost use Rattle.mea_meet.specs.CountEntries.{Settles, Polled, Turns};
+    ghost use Rattle.mea_meet.specs.CountEntries.{is_full, Settles, Polled, Turns};
 
-    /// A point of a new core, with so many things.
-    pub fn new(core: C, things: u128) -> Self
-        ensures { result ≡ record { point = C.point_of core; things = things } }
+    /// A point of a new core, with its first holder, and a sender or none.
+    pub fn new(core: C, sends: bool) -> Self
+        ensures { result ≡ record { point = C.point_of core; things = if sends then 2 else 1 } }
     {
-        PointEntry { core, things }
+        PointEntry {
+            core,
+            things: if sends { 2 } else { 1 },
+        }
     }
 
     pub fn core(&self) -> &C
         ensures { C.point_of result.now ≡ self.now.point }
     {
         &self.core
+    }
+
+    /// Whether one more member, if it is to be counted, is more than it can count.
+    pub fn is_full(&self, counted: bool) -> bool
+        ensures { result ≡ is_full self.now counted }
+    {
+        counted && self.core.members() == u32::MAX
     }
 
     /// One thing more.
@@ -51,21 +62,16 @@ impl<C: CountCore> PointEntry<C> {
         self.things += 1;
     }
 
-    /// One thing less.
-    pub fn finish(&mut self)
-        requires { 1 ≤ self.old.things }
-        ensures { self.new ≡ record self.old { things = self.old.things - 1 } }
+    /// One thing less. Tells whether none is left, and then its wakers are registered no longer.
+    pub fn finish(&mut self, ready: &mut Ready<u64>) -> bool
+        requires some { 1 ≤ self.old.things }
+        requires room { kept_by self.old.point ≤ ready.old.registered }
+        ensures entry { self.new ≡ record self.old { things = self.old.things - 1 } }
+        ensures over { result ≡ (self.new.things == 0) }
+        ensures wakers { ready.new.wakers ≡ ready.old.wakers }
+        ensures counted { ready.new.registered + (if result then kept_by self.new.point else 0) ≡ ready.old.registered }
     {
         self.things -= 1;
-    }
-
-    /// Whether nothing of it is left, and then its wakers are registered no longer.
-    pub fn release(&self, ready: &mut Ready<u64>) -> bool
-        requires { kept_by self.now.point ≤ ready.old.registered }
-        ensures over { result ≡ (self.now.things == 0) }
-        ensures wakers { ready.new.wakers ≡ ready.old.wakers }
-        ensures counted { ready.new.registered + (if result then kept_by self.now.point else 0) ≡ ready.old.registered }
-    {
         if self.things > 0 {
             return false;
         }
@@ -86,7 +92,7 @@ impl<C: CountCore> PointEntry<C> {
 
     /// Takes `n` from the signal, and hands on the wakers of those who waited for its end.
     pub fn arrive(&mut self, n: u32, ready: &mut Ready<u64>)
-        requires most { C.takes_many ≡ false → n ≡ 1 }
+        requires most { takes_many C.kind ≡ false → n ≡ 1 }
         requires quiet { self.old.point.wakes ≡ [] }
         requires room { kept_by self.old.point ≤ ready.old.registered }
         ensures { Settles self.old (arrived self.old.point n) self.new ready.old ready.new }

@@ -1,16 +1,22 @@
 use crate::count_core::CountCore;
+use crate::new_point::NewPoint;
 use mea_base::{NoMemory, Poll};
 use mea_by_name::NamedWaker;
 use mea_meet_core::{GroupWait, LatchWait, ShutdownCore};
+use std::alloc::Global;
 
 impl CountCore for ShutdownCore<NamedWaker> {
     ghost use Rattle.mea_meet.specs.CountCores.{NamedPoint};
 
     ghost point_of = { λ s. s };
 
-    ghost use Rattle.std.specs.Prelude.{false};
+    ghost use Rattle.mea_meet_model.specs.Hall.{Shutdowns};
 
-    ghost takes_many = { false };
+    ghost kind = { Shutdowns };
+
+    fn make(alloc: Global, _new: NewPoint) -> Self {
+        ShutdownCore::new(alloc)
+    }
 
     fn is_set(&self) -> bool {
         self.is_shutdown_now()
@@ -37,19 +43,11 @@ impl CountCore for ShutdownCore<NamedWaker> {
     }
 
     fn add(&mut self) {
-        if self.receivers() == 0 {
-            return;
-        }
-        match self.add_receiver() {
-            Err(_) => unreachable!(),
-            Ok(()) => {}
-        }
+        let _ = self.add_receiver_checked();
     }
 
     fn leave(&mut self) {
-        if self.receivers() > 0 {
-            self.end_receiver();
-        }
+        self.end_receiver_checked();
     }
 
     fn poll_signal(

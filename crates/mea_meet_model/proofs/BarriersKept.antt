@@ -13,7 +13,7 @@ use Rattle.mea_by_name.proofs.Cases.{by_found, by_if}
 use Rattle.mea_by_name.proofs.Own.{own-nothing}
 use Rattle.mea_by_name.proofs.NamedQueues.{registering-other}
 use Rattle.mea_meet_model.specs.Barriers as barriers
-use Rattle.mea_meet_model.specs.Barriers.{Barriers, Barrier, BarrierWait, no_barriers, new_barrier, is_barrier, is_wait, waits_of, of_wait, leads, has_completed}
+use Rattle.mea_meet_model.specs.Barriers.{Barriers, Barrier, BarrierWait, no_barriers, new_barrier, is_barrier, waits_of, of_wait, leads, has_completed}
 use Rattle.mea_meet_model.specs.BarrierActions.{BarrierAction, Make, Begin, Poll, End, Drop, cause_at, act_at}
 use Rattle.mea_meet_model.specs.Valid.{IsBarrier, HasBarriers}
 use Rattle.mea_meet_model.proofs.CountsKept.{home_later, home_empty}

@@ -14,7 +14,7 @@ use Rattle.mea_by_name.proofs.Cases.{by_found, by_if}
 use Rattle.mea_by_name.proofs.Own.{Moves, Stays, Comes, Goes, own-at, own-none, own-had, own-put, own-gone, own-empty, len-some, insert_same}
 use Rattle.mea_meet_model.specs.Count.{decreased, with_waker}
 use Rattle.mea_meet_model.specs.Counts as counts
-use Rattle.mea_meet_model.specs.Counts.{Counts, Point, End, OfSignal, OfMembers, Holder, Awaited, Signal, Members, Wait, New, new_point, count_at, with_count, end_of, borrows, joined, parted, is_holder, borrowers_of, things_of, of_itself, of_holder, of_wait}
+use Rattle.mea_meet_model.specs.Counts.{Counts, Point, End, OfSignal, OfMembers, Holder, Awaited, Signal, Members, Wait, New, new_point, count_at, with_count, end_of, borrows, joined, parted, is_holder, borrowers_of, of_itself, of_holder, of_wait}
 use Rattle.mea_meet_model.specs.CountActions.{Action, Make, Number, Try, Now, Arrive, Begin, Join, Watch, Into, EndHolder, Copy, Poll, EndWait, EndEither, CopySender, Send, Await, EndSender, cause_in, act_in, end_by, leave_by}
 use Rattle.mea_meet_model.specs.Valid.{IsPoint, AreThere, HasCounts, BorrowNothing}
 use Rattle.mea_meet_model.proofs.OnePoint as one

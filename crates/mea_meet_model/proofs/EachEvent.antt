@@ -7,7 +7,7 @@ use Rattle.mea_events.specs.declared.meet_event.MeetEvent.TheVariants as events
 use Rattle.mea_meet_model.specs.Counts.{Wait}
 use Rattle.mea_meet_model.specs.CountActions.{Begin}
 use Rattle.mea_meet_model.specs.Hall.{Hall, Latches, Groups, Shutdowns, empty_hall, part}
-use Rattle.mea_meet_model.specs.Meaning.{Doing, OnBarriers, OnCounts, doing}
+use Rattle.mea_meet_model.specs.Meaning.{Meaning, OnBarriers, OnCounts, meaning_of}
 use Rattle.mea_meet_model.specs.Cause.{cause_by, cause_of}
 use Rattle.mea_meet_model.specs.Step.{step_by, step}
 use Rattle.mea_meet_model.specs.Meets.{meets}
@@ -31,12 +31,12 @@ valid_later h n m v later = record {
 }
 
 -- what the lines ask for, beside that they have no cause for refusal
-abbrev MayDo : Hall → Doing → Type 0
+abbrev MayDo : Hall → Meaning → Type 0
 MayDo h (OnBarriers a) = Unit {0}
 MayDo h (OnCounts Groups a) = MayAct h.groups a × ((k : ℕ) (plain : Bool) → a ≡ Begin k plain → ⊥)
 MayDo h (OnCounts k a) = MayAct (part h k) a
 
-may_do : (h : Hall) (n : ℕ) → IsValid h n → (e : MeetEvent) → MayDo h (doing e)
+may_do : (h : Hall) (n : ℕ) → IsValid h n → (e : MeetEvent) → MayDo h (meaning_of e)
 may_do h n v (events.LatNew k) = refl
 may_do h n v events.SdNew = refl
 may_do h n v events.WgNew = (refl, λ k plain is. absurd (cc))
@@ -48,7 +48,7 @@ may_do h n v (events.WgEnd x) = (v.members_alone, λ k plain is. absurd (cc))
 may_do h n v _ = tt
 
 module _ (h : Hall) (n i : ℕ) (v : IsValid h n) (later : n ≤ i) where
-  valid_by : (d : Doing) → MayDo h d → cause_by h d ≡ None → IsValid (step_by h i d).hall (i + 1)
+  valid_by : (d : Meaning) → MayDo h d → cause_by h d ≡ None → IsValid (step_by h i d).hall (i + 1)
   valid_by (OnBarriers a) may allowed = let rest = valid_later h n (i + 1) v (omega (arith, later)) in
       record { barriers = at_barriers.keeps h.barriers n i v.barriers later a allowed; latches = rest.latches; groups = rest.groups; members_alone = v.members_alone; shutdowns = rest.shutdowns }
   valid_by (OnCounts Latches a) may allowed = let rest = valid_later h n (i + 1) v (omega (arith, later)) in
@@ -59,7 +59,7 @@ module _ (h : Hall) (n i : ℕ) (v : IsValid h n) (later : n ≤ i) where
       record { barriers = rest.barriers; latches = rest.latches; groups = rest.groups; members_alone = v.members_alone; shutdowns = at_counts.keeps h.shutdowns n i v.shutdowns later a allowed may }
 
   pub valid_event : (e : MeetEvent) → cause_of h e ≡ None → IsValid (step h i e).hall (i + 1)
-  valid_event e allowed = valid_by (doing e) (may_do h n v e) allowed
+  valid_event e allowed = valid_by (meaning_of e) (may_do h n v e) allowed
 
 -- every hall that events reach is valid
 pub valid_run : (r : RunOf meets) → IsRun meets r → IsValid r.hall r.next

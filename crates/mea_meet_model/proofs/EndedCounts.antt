@@ -12,7 +12,7 @@ use Rattle.mea_meet_model.specs.Counts as counts
 use Rattle.mea_meet_model.specs.Counts.{Counts, Point, End, OfSignal, OfMembers, Holder, Awaited, Signal, Members, New, new_point, count_at, with_count, end_of, joined, parted, is_holder, things_of, of_holder, point_at}
 use Rattle.mea_meet_model.specs.CountActions.{Action, Make, Number, Try, Now, Arrive, Begin, Join, Watch, Into, EndHolder, Copy, Poll, EndWait, EndEither, CopySender, Send, Await, EndSender, act_in, end_by, leave_by}
 use Rattle.mea_meet_model.specs.Hall.{Hall, Latches, Groups, Shutdowns}
-use Rattle.mea_meet_model.specs.Meaning.{Doing, OnBarriers, OnCounts}
+use Rattle.mea_meet_model.specs.Meaning.{Meaning, OnBarriers, OnCounts}
 use Rattle.mea_meet_model.specs.Step.{step_by}
 use Rattle.mea_meet_model.specs.Valid.{HasCounts}
 use Rattle.mea_meet_model.proofs.CountsKept.{no_point}
@@ -114,19 +114,19 @@ module _ (h : Counts) (n i : ℕ) (v : HasCounts h n) (later : n ≤ i) where
 
 -- an event on points of one kind, or on barriers, leaves those of the others as they are
 module _ (h : Hall) (n i : ℕ) (later : n ≤ i) (o : ℕ) (e : End) where
-  pub latches_last : HasCounts h.latches n → (d : Doing) → IsSome (get h.latches.points o) → (count_at e (point_at h.latches o)).number ≡ 0 → (count_at e (point_at (step_by h i d).hall.latches o)).number ≡ 0
+  pub latches_last : HasCounts h.latches n → (d : Meaning) → IsSome (get h.latches.points o) → (count_at e (point_at h.latches o)).number ≡ 0 → (count_at e (point_at (step_by h i d).hall.latches o)).number ≡ 0
   latches_last v (OnBarriers a) some none = none
   latches_last v (OnCounts Latches a) some none = last h.latches n i v later a o e some none
   latches_last v (OnCounts Groups a) some none = none
   latches_last v (OnCounts Shutdowns a) some none = none
 
-  pub groups_last : HasCounts h.groups n → (d : Doing) → IsSome (get h.groups.points o) → (count_at e (point_at h.groups o)).number ≡ 0 → (count_at e (point_at (step_by h i d).hall.groups o)).number ≡ 0
+  pub groups_last : HasCounts h.groups n → (d : Meaning) → IsSome (get h.groups.points o) → (count_at e (point_at h.groups o)).number ≡ 0 → (count_at e (point_at (step_by h i d).hall.groups o)).number ≡ 0
   groups_last v (OnBarriers a) some none = none
   groups_last v (OnCounts Latches a) some none = none
   groups_last v (OnCounts Groups a) some none = last h.groups n i v later a o e some none
   groups_last v (OnCounts Shutdowns a) some none = none
 
-  pub shutdowns_last : HasCounts h.shutdowns n → (d : Doing) → IsSome (get h.shutdowns.points o) → (count_at e (point_at h.shutdowns o)).number ≡ 0 → (count_at e (point_at (step_by h i d).hall.shutdowns o)).number ≡ 0
+  pub shutdowns_last : HasCounts h.shutdowns n → (d : Meaning) → IsSome (get h.shutdowns.points o) → (count_at e (point_at h.shutdowns o)).number ≡ 0 → (count_at e (point_at (step_by h i d).hall.shutdowns o)).number ≡ 0
   shutdowns_last v (OnBarriers a) some none = none
   shutdowns_last v (OnCounts Latches a) some none = none
   shutdowns_last v (OnCounts Groups a) some none = none

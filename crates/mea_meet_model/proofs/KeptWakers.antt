@@ -9,10 +9,9 @@ use Rattle.mea_family.proofs.Causes.{known}
 use Rattle.mea_meet_model.specs.Barriers as barriers
 use Rattle.mea_meet_model.specs.BarrierActions.{BarrierAction, act_at, cause_at, polled_at}
 use Rattle.mea_meet_model.specs.Counts as counts
-use Rattle.mea_meet_model.specs.Counts.{Counts}
 use Rattle.mea_meet_model.specs.CountActions.{Action, act_in, cause_in, polled_in}
 use Rattle.mea_meet_model.specs.Hall.{Hall, Kind, Latches, Groups, Shutdowns, part}
-use Rattle.mea_meet_model.specs.Meaning.{Doing, OnBarriers, OnCounts, doing}
+use Rattle.mea_meet_model.specs.Meaning.{Meaning, OnBarriers, OnCounts, meaning_of}
 use Rattle.mea_meet_model.specs.Cause.{cause_by}
 use Rattle.mea_meet_model.specs.Step.{step_by}
 use Rattle.mea_meet_model.specs.Meets.{Sort, AtBarrier, Of, polled_by, ends_by, lives_as, placed_as, meets}
@@ -25,7 +24,7 @@ use Rattle.mea_meet_model.proofs.EachEvent.{valid_run}
 
 -- ---- what an event makes of the futures of each sort
 module _ (h : Hall) (n i : ℕ) (v : IsValid h n) (later : n ≤ i) where
-  acts : (d : Doing) → cause_by h d ≡ None → (s : Sort) → PartActs (polled_by d s) (ends_by d s) i (lives_as h s) (lives_as (step_by h i d).hall s) (placed_as h s) (placed_as (step_by h i d).hall s) (step_by h i d).wakes
+  acts : (d : Meaning) → cause_by h d ≡ None → (s : Sort) → PartActs (polled_by d s) (ends_by d s) i (lives_as h s) (lives_as (step_by h i d).hall s) (placed_as h s) (placed_as (step_by h i d).hall s) (step_by h i d).wakes
   acts (OnBarriers a) allowed AtBarrier = barriers_act h.barriers n i v.barriers later a allowed
   acts (OnBarriers a) allowed (Of k) = rests i (lives_as h (Of k)) (placed_as h (Of k)) (act_at h.barriers i a).wakes
   acts (OnCounts Latches a) allowed AtBarrier = rests i (lives_as h AtBarrier) (placed_as h AtBarrier) (act_in h.latches i a).wakes
@@ -42,11 +41,11 @@ module _ (h : Hall) (n i : ℕ) (v : IsValid h n) (later : n ≤ i) where
   acts (OnCounts Shutdowns a) allowed (Of Shutdowns) = counts_act h.shutdowns n i v.shutdowns later a
 
 -- ---- whom an event polls is of its sort
-data PolledAs (f w : ℕ) : Doing → Sort → Type 0 where
+data PolledAs (f w : ℕ) : Meaning → Sort → Type 0 where
   AtIt : (a : BarrierAction) → polled_at a f ≡ Some w → PolledAs f w (OnBarriers a) AtBarrier
   ForIt : (k : Kind) (a : Action) → polled_in a f ≡ Some w → PolledAs f w (OnCounts k a) (Of k)
 
-polled_as : (d : Doing) (s : Sort) (f w : ℕ) → polled_by d s f ≡ Some w → PolledAs f w d s
+polled_as : (d : Meaning) (s : Sort) (f w : ℕ) → polled_by d s f ≡ Some w → PolledAs f w d s
 polled_as (OnBarriers a) AtBarrier f w is = AtIt a is
 polled_as (OnCounts Latches a) (Of Latches) f w is = ForIt Latches a is
 polled_as (OnCounts Groups a) (Of Groups) f w is = ForIt Groups a is
@@ -66,17 +65,17 @@ module _ (h : Hall) (i : ℕ) (f w : ℕ) where
   placed_after Groups a is = is
   placed_after Shutdowns a is = is
 
-  places : (d : Doing) (s : Sort) → PolledAs f w d s → (step_by h i d).reply ≡ answers.Pending → placed_as (step_by h i d).hall s f ≡ Some w
+  places : (d : Meaning) (s : Sort) → PolledAs f w d s → (step_by h i d).reply ≡ answers.Pending → placed_as (step_by h i d).hall s f ≡ Some w
   places _ _ (AtIt a is) = at_barriers.same_poll a f w (λ a. (act_at h.barriers i a).reply ≡ answers.Pending → barriers.placed (act_at h.barriers i a).hall f ≡ Some w) (at_barriers.places h.barriers i f w) is
   places _ _ (ForIt k a is) = λ pending. placed_after k a (at_counts.same_poll a f w (λ a. (act_in (part h k) i a).reply ≡ answers.Pending → counts.placed (act_in (part h k) i a).hall f ≡ Some w) (at_counts.places (part h k) i f w) is pending)
 
   -- while a waker is placed, a poll replies `pending`
-  waits : (n : ℕ) → IsValid h n → (u : ℕ) (d : Doing) (s : Sort) → PolledAs f w d s → placed_as h s f ≡ Some u → (step_by h i d).reply ≡ answers.Pending
+  waits : (n : ℕ) → IsValid h n → (u : ℕ) (d : Meaning) (s : Sort) → PolledAs f w d s → placed_as h s f ≡ Some u → (step_by h i d).reply ≡ answers.Pending
   waits n v u _ _ (AtIt a is) has = at_barriers.same_poll a f w (λ a. (act_at h.barriers i a).reply ≡ answers.Pending) (at_barriers.waits h.barriers i n v.barriers f u w has) is
   waits n v u _ _ (ForIt k a is) has = at_counts.same_poll a f w (λ a. (act_in (part h k) i a).reply ≡ answers.Pending) (at_counts.waits (part h k) i n (part_valid h n v k) f u w has) is
 
   -- who is polled lives
-  polls : (d : Doing) (s : Sort) → PolledAs f w d s → cause_by h d ≡ None → lives_as h s f ≡ true
+  polls : (d : Meaning) (s : Sort) → PolledAs f w d s → cause_by h d ≡ None → lives_as h s f ≡ true
   polls _ _ (AtIt a is) = at_barriers.same_poll a f w (λ a. cause_at h.barriers a ≡ None → barriers.is_wait h.barriers f ≡ true) (known (barriers.is_wait h.barriers f)) is
   polls _ _ (ForIt k a is) = at_counts.same_poll a f w (λ a. cause_in (part h k) a ≡ None → counts.is_wait (part h k) f ≡ true) (known (counts.is_wait (part h k) f)) is
 
@@ -86,18 +85,18 @@ below h n v (Of k) f living = let it = value_in (get (part h k).waits f) living 
 
 pub keeps : KeepsWakers meets
 keeps = record {
-  places = λ r i e runs later cause f w is pending. places r.hall i f.name w (doing e) f.sort (polled_as (doing e) f.sort f.name w is) pending;
-  waits = λ r i e runs f w u living has is. waits r.hall i f.name u r.next (valid_run r runs) w (doing e) f.sort (polled_as (doing e) f.sort f.name u is) has;
-  wakes = λ r i e runs later cause f w living has silent lasts. (acts r.hall r.next i (valid_run r runs) later (doing e) cause f.sort).wakes f.name w living has silent lasts;
-  stays = λ r i e runs later cause f living silent lasts. (acts r.hall r.next i (valid_run r runs) later (doing e) cause f.sort).stays f.name living silent lasts;
-  goes = λ r i e runs later cause f is. (acts r.hall r.next i (valid_run r runs) later (doing e) cause f.sort).over f.name is;
+  places = λ r i e runs later cause f w is pending. places r.hall i f.name w (meaning_of e) f.sort (polled_as (meaning_of e) f.sort f.name w is) pending;
+  waits = λ r i e runs f w u living has is. waits r.hall i f.name u r.next (valid_run r runs) w (meaning_of e) f.sort (polled_as (meaning_of e) f.sort f.name u is) has;
+  wakes = λ r i e runs later cause f w living has silent lasts. (acts r.hall r.next i (valid_run r runs) later (meaning_of e) cause f.sort).wakes f.name w living has silent lasts;
+  stays = λ r i e runs later cause f living silent lasts. (acts r.hall r.next i (valid_run r runs) later (meaning_of e) cause f.sort).stays f.name living silent lasts;
+  goes = λ r i e runs later cause f is. (acts r.hall r.next i (valid_run r runs) later (meaning_of e) cause f.sort).over f.name is;
 }
 
 pub names : NamesFutures meets
 names = record {
-  polls = λ h e cause f w is. polls h 0 f.name w (doing e) f.sort (polled_as (doing e) f.sort f.name w is) cause;
+  polls = λ h e cause f w is. polls h 0 f.name w (meaning_of e) f.sort (polled_as (meaning_of e) f.sort f.name w is) cause;
   below = λ r runs f living. below r.hall r.next (valid_run r runs) f.sort f.name living;
-  made = λ r i e runs later cause f living. (acts r.hall r.next i (valid_run r runs) later (doing e) cause f.sort).made f.name living;
+  made = λ r i e runs later cause f living. (acts r.hall r.next i (valid_run r runs) later (meaning_of e) cause f.sort).made f.name living;
 }
 
 pub no_wake_is_lost : (r : RunOf meets) → IsRun meets r → LosesNoWake meets r

@@ -6,9 +6,9 @@ use Rattle.mea_events.specs.declared.meet_event.MeetEvent.{MeetEvent}
 use Rattle.mea_meet_model.specs.Barriers as barriers
 use Rattle.mea_meet_model.specs.Barriers.{Barrier}
 use Rattle.mea_meet_model.specs.Counts as counts
-use Rattle.mea_meet_model.specs.Counts.{Counts, Point, count_at, end_of}
+use Rattle.mea_meet_model.specs.Counts.{Point}
 use Rattle.mea_meet_model.specs.Hall.{Hall, Latches, Groups, Shutdowns, empty_hall, registered}
-use Rattle.mea_meet_model.specs.Meaning.{Doing, OnBarriers, OnCounts, doing}
+use Rattle.mea_meet_model.specs.Meaning.{Meaning, OnBarriers, OnCounts, meaning_of}
 use Rattle.mea_meet_model.specs.Step.{step_by, step, registers_by, registers}
 use Rattle.mea_meet_model.proofs.CountActing.{settles}
 use Rattle.mea_meet_model.proofs.BarrierActing.{barriers_counted}
@@ -19,14 +19,14 @@ pub record HallSettles (h : Hall) (o : Outcome Hall) (extra : ℕ) : Type 0 wher
   pub grows : registered o.hall + length o.wakes ≤ registered h + extra
 
 module _ (h : Hall) (i : ℕ) where
-  by_doing : (d : Doing) → HallSettles h (step_by h i d) (cond (registers_by d) 1 0)
-  by_doing (OnBarriers a) = let it = barriers_counted h.barriers i a in record { most = omega (arith, it.most); grows = omega (arith, it.grows) }
-  by_doing (OnCounts Latches a) = let it = settles h.latches i a in record { most = omega (arith, it.most); grows = omega (arith, it.grows) }
-  by_doing (OnCounts Groups a) = let it = settles h.groups i a in record { most = omega (arith, it.most); grows = omega (arith, it.grows) }
-  by_doing (OnCounts Shutdowns a) = let it = settles h.shutdowns i a in record { most = omega (arith, it.most); grows = omega (arith, it.grows) }
+  by_meaning : (d : Meaning) → HallSettles h (step_by h i d) (cond (registers_by d) 1 0)
+  by_meaning (OnBarriers a) = let it = barriers_counted h.barriers i a in record { most = omega (arith, it.most); grows = omega (arith, it.grows) }
+  by_meaning (OnCounts Latches a) = let it = settles h.latches i a in record { most = omega (arith, it.most); grows = omega (arith, it.grows) }
+  by_meaning (OnCounts Groups a) = let it = settles h.groups i a in record { most = omega (arith, it.most); grows = omega (arith, it.grows) }
+  by_meaning (OnCounts Shutdowns a) = let it = settles h.shutdowns i a in record { most = omega (arith, it.most); grows = omega (arith, it.grows) }
 
   pub all : (e : MeetEvent) → HallSettles h (step h i e) (cond (registers e) 1 0)
-  all e = by_doing (doing e)
+  all e = by_meaning (meaning_of e)
 
 at_most_one : (b : Bool) → cond b 1 0 ≤ 1
 at_most_one true = omega arith

@@ -16,14 +16,13 @@ use Rattle.mea_events.specs.declared.meet_event.MeetEvent.TheVariants as events
 use Rattle.mea_meet_model.specs.Barriers as barriers
 use Rattle.mea_meet_model.specs.Barriers.{Barriers, Barrier, BarrierWait, new_barrier, barrier_at, leads, has_completed}
 use Rattle.mea_meet_model.specs.BarrierActions as at_barriers
-use Rattle.mea_meet_model.specs.BarrierActions.{act_at}
 use Rattle.mea_meet_model.specs.Counts as counts
 use Rattle.mea_meet_model.specs.Counts.{Counts, Point, Holder, count_at, end_of, is_holder}
 use Rattle.mea_meet_model.specs.CountActions.{Action, Make, Number, Try, Now, Arrive, Begin, Join, Watch, Into, EndHolder, Copy, Poll, EndWait, EndEither, CopySender, Send, Await, EndSender, act_in, end_by}
 use Rattle.mea_meet_model.specs.Hall.{Hall, Kind, Latches, Groups, Shutdowns, part}
-use Rattle.mea_meet_model.specs.Meaning.{Doing, OnBarriers, OnCounts, doing}
+use Rattle.mea_meet_model.specs.Meaning.{Meaning, OnBarriers, OnCounts, meaning_of}
 use Rattle.mea_meet_model.specs.Step.{step_by, step}
-use Rattle.mea_meet_model.specs.Leaders.{is_leader, leads_new, leads_there, leads_wait, leads_doing, leads_by, arrivals_new, arrivals_wait, arrivals_doing, arrivals_by, leaders}
+use Rattle.mea_meet_model.specs.Leaders.{is_leader, leads_new, leads_there, leads_wait, leads_meant, leads_by, arrivals_new, arrivals_wait, arrivals_meant, arrivals_by, leaders}
 use Rattle.mea_meet_model.specs.Valid.{HasBarriers, IsValid}
 use Rattle.mea_meet_model.proofs.Rounds.{same_round, next_round, one_round}
 
@@ -85,16 +84,16 @@ leader-poll h f w None = refl
 leader-poll h f w (Some x) = leader-there h f w x (get h.barriers x.barrier)
 
 module _ (h : Hall) (i : ℕ) where
-  by_doing : (d : Doing) → is_leader (step_by h i d).reply ≡ leads_doing h d
-  by_doing (OnCounts k a) = none_leads (part h k) i a
-  by_doing (OnBarriers (at_barriers.Poll f w)) = leader-poll h.barriers f w (get h.barriers.waits f)
-  by_doing (OnBarriers (at_barriers.Make n)) = refl
-  by_doing (OnBarriers (at_barriers.Begin b)) = refl
-  by_doing (OnBarriers (at_barriers.End f)) = refl
-  by_doing (OnBarriers (at_barriers.Drop b)) = refl
+  by_meaning : (d : Meaning) → is_leader (step_by h i d).reply ≡ leads_meant h d
+  by_meaning (OnCounts k a) = none_leads (part h k) i a
+  by_meaning (OnBarriers (at_barriers.Poll f w)) = leader-poll h.barriers f w (get h.barriers.waits f)
+  by_meaning (OnBarriers (at_barriers.Make n)) = refl
+  by_meaning (OnBarriers (at_barriers.Begin b)) = refl
+  by_meaning (OnBarriers (at_barriers.End f)) = refl
+  by_meaning (OnBarriers (at_barriers.Drop b)) = refl
 
 pub exactly : (h : Hall) (i : ℕ) (e : MeetEvent) → is_leader (step h i e).reply ≡ leads_by h e
-exactly h i e = by_doing h i (doing e)
+exactly h i e = by_meaning h i (meaning_of e)
 
 pub wakes : (h : Hall) (i f w : ℕ) (x : BarrierWait) → get h.barriers.waits f ≡ Some x → leads_by h (events.BarPoll f w) ≡ true
     → (step h i (events.BarPoll f w)).wakes ≡ wakers (barrier_at h.barriers x.barrier).waiting
@@ -146,13 +145,13 @@ module _ (h : Barriers) where
   arrives-make n i k later v b there still = by_at_put (new_barrier 1) h.barriers i (new_barrier k) (λ c r. IsSome (get h.barriers c) → r.arrivals ≡ (barrier_at h c).arrivals + 0)
       (λ known. absurd (let it = value_in (get h.barriers i) known in let low = (v.each i it.0 it.1).below in omega (arith, low, later))) (λ c apart known. omega arith) b there
 
-arrives-doing : (h : Hall) (n i : ℕ) (d : Doing) → IsValid h n → n ≤ i → Arrives h.barriers (step_by h i d).hall.barriers (arrivals_doing h d)
-arrives-doing h n i (OnBarriers (at_barriers.Make k)) v later = arrives-make h.barriers n i k later v.barriers
-arrives-doing h n i (OnBarriers (at_barriers.Begin b)) v later = arrives-same h.barriers (barriers.begin h.barriers i b).hall refl (λ b. 0) (λ b. refl)
-arrives-doing h n i (OnBarriers (at_barriers.Poll f w)) v later = arrives-poll h.barriers n v.barriers f w (get h.barriers.waits f) refl
-arrives-doing h n i (OnBarriers (at_barriers.End f)) v later = arrives-same h.barriers (barriers.gone h.barriers f) refl (λ b. 0) (λ b. refl)
-arrives-doing h n i (OnBarriers (at_barriers.Drop b)) v later = arrives-drop h.barriers b
-arrives-doing h n i (OnCounts k a) v later = still k
+arrives-meant : (h : Hall) (n i : ℕ) (d : Meaning) → IsValid h n → n ≤ i → Arrives h.barriers (step_by h i d).hall.barriers (arrivals_meant h d)
+arrives-meant h n i (OnBarriers (at_barriers.Make k)) v later = arrives-make h.barriers n i k later v.barriers
+arrives-meant h n i (OnBarriers (at_barriers.Begin b)) v later = arrives-same h.barriers (barriers.begin h.barriers i b).hall refl (λ b. 0) (λ b. refl)
+arrives-meant h n i (OnBarriers (at_barriers.Poll f w)) v later = arrives-poll h.barriers n v.barriers f w (get h.barriers.waits f) refl
+arrives-meant h n i (OnBarriers (at_barriers.End f)) v later = arrives-same h.barriers (barriers.gone h.barriers f) refl (λ b. 0) (λ b. refl)
+arrives-meant h n i (OnBarriers (at_barriers.Drop b)) v later = arrives-drop h.barriers b
+arrives-meant h n i (OnCounts k a) v later = still k
   where
     still : (k : Kind) → Arrives h.barriers (step_by h i (OnCounts k a)).hall.barriers (λ b. 0)
     still Latches = arrives-same h.barriers h.barriers refl (λ b. 0) (λ b. refl)
@@ -161,7 +160,7 @@ arrives-doing h n i (OnCounts k a) v later = still k
 
 pub arrives : (h : Hall) (n i : ℕ) (e : MeetEvent) → IsValid h n → n ≤ i → (b : ℕ) → IsSome (get h.barriers.barriers b) → IsSome (get (step h i e).hall.barriers.barriers b)
     → (barrier_at (step h i e).hall.barriers b).arrivals ≡ (barrier_at h.barriers b).arrivals + arrivals_by h e b
-arrives h n i e v later = arrives-doing h n i (doing e) v later
+arrives h n i e v later = arrives-meant h n i (meaning_of e) v later
 
 -- ---- how many lead
 -- an arrival that leads ends a round, and no other does

@@ -6,11 +6,11 @@ use Rattle.mea_events.specs.declared.meet_event.MeetEvent.{MeetEvent}
 use Rattle.mea_meet_model.specs.CountActions.{cause_in}
 use Rattle.mea_meet_model.specs.BarrierActions.{cause_at}
 use Rattle.mea_meet_model.specs.Hall.{Hall, part}
-use Rattle.mea_meet_model.specs.Meaning.{Doing, OnBarriers, OnCounts, doing}
+use Rattle.mea_meet_model.specs.Meaning.{Meaning, OnBarriers, OnCounts, meaning_of}
 
-abbrev pub cause_by : Hall → Doing → Option Stop
+abbrev pub cause_by : Hall → Meaning → Option Stop
 cause_by h (OnBarriers a) = cause_at h.barriers a
 cause_by h (OnCounts k a) = cause_in (part h k) a
 
 abbrev pub cause_of : Hall → MeetEvent → Option Stop
-cause_of h e = cause_by h (doing e)
+cause_of h e = cause_by h (meaning_of e)

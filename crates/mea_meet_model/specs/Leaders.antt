@@ -7,7 +7,7 @@ use Rattle.mea_events.specs.declared.meet_event.MeetEvent.{MeetEvent}
 use Rattle.mea_meet_model.specs.Barriers.{Barriers, Barrier, BarrierWait, leads}
 use Rattle.mea_meet_model.specs.BarrierActions.{Poll}
 use Rattle.mea_meet_model.specs.Hall.{Hall}
-use Rattle.mea_meet_model.specs.Meaning.{Doing, OnBarriers, doing}
+use Rattle.mea_meet_model.specs.Meaning.{Meaning, OnBarriers, meaning_of}
 
 abbrev pub is_leader : Answer → Bool
 is_leader answers.Leader = true
@@ -26,13 +26,13 @@ abbrev pub leads_wait : Barriers → Option BarrierWait → Bool
 leads_wait h None = false
 leads_wait h (Some x) = leads_there (map.get h.barriers x.barrier) x.round
 
-abbrev pub leads_doing : Hall → Doing → Bool
-leads_doing h (OnBarriers (Poll f w)) = leads_wait h.barriers (map.get h.barriers.waits f)
-leads_doing h _ = false
+abbrev pub leads_meant : Hall → Meaning → Bool
+leads_meant h (OnBarriers (Poll f w)) = leads_wait h.barriers (map.get h.barriers.waits f)
+leads_meant h _ = false
 
 -- an event leads: it polls a new future of a barrier whose arrivals it brings to a multiple of the size
 abbrev pub leads_by : Hall → MeetEvent → Bool
-leads_by h e = leads_doing h (doing e)
+leads_by h e = leads_meant h (meaning_of e)
 
 -- a future arrives at its barrier once, by its first poll
 abbrev pub arrivals_new : Option ℕ → ℕ
@@ -43,13 +43,13 @@ abbrev pub arrivals_wait : Option BarrierWait → ℕ → ℕ
 arrivals_wait None b = 0
 arrivals_wait (Some x) b = cond (x.barrier == b) (arrivals_new x.round) 0
 
-abbrev pub arrivals_doing : Hall → Doing → ℕ → ℕ
-arrivals_doing h (OnBarriers (Poll f w)) b = arrivals_wait (map.get h.barriers.waits f) b
-arrivals_doing h _ b = 0
+abbrev pub arrivals_meant : Hall → Meaning → ℕ → ℕ
+arrivals_meant h (OnBarriers (Poll f w)) b = arrivals_wait (map.get h.barriers.waits f) b
+arrivals_meant h _ b = 0
 
 -- how many arrivals at b an event makes
 abbrev pub arrivals_by : Hall → MeetEvent → ℕ → ℕ
-arrivals_by h e b = arrivals_doing h (doing e) b
+arrivals_by h e b = arrivals_meant h (meaning_of e) b
 
 -- how many of the next k arrivals at r lead
 abbrev pub leaders : Barrier → ℕ → ℕ

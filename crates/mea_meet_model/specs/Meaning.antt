@@ -9,9 +9,9 @@ use Rattle.mea_meet_model.specs.BarrierActions.{BarrierAction}
 use Rattle.mea_meet_model.specs.Hall.{Kind, Latches, Groups, Shutdowns}
 
 -- what a line does: something to barriers, or to points that count of a kind
-pub data Doing : Type 0 where
-  OnBarriers : BarrierAction → Doing
-  OnCounts : Kind → Action → Doing
+pub data Meaning : Type 0 where
+  OnBarriers : BarrierAction → Meaning
+  OnCounts : Kind → Action → Meaning
 
 -- a latch has its signal's count and one holder, which is its name
 abbrev pub latch_from : ℕ → New
@@ -25,38 +25,38 @@ new_group = record { signal = 0; members = 1; counted = true; sends = false }
 abbrev pub new_shutdown : New
 new_shutdown = record { signal = 1; members = 1; counted = true; sends = true }
 
-abbrev pub doing : MeetEvent → Doing
-doing (BarNew n) = OnBarriers (at_barriers.Make n)
-doing (BarWait b) = OnBarriers (at_barriers.Begin b)
-doing (BarPoll f w) = OnBarriers (at_barriers.Poll f w)
-doing (BarEnd f) = OnBarriers (at_barriers.End f)
-doing (BarDrop b) = OnBarriers (at_barriers.Drop b)
-doing (LatNew n) = OnCounts Latches (Make (latch_from n))
-doing (LatCount l) = OnCounts Latches (Number l)
-doing (LatDown l) = OnCounts Latches (Arrive l 1)
-doing (LatArrive l n) = OnCounts Latches (Arrive l n)
-doing (LatTry l) = OnCounts Latches (Try l)
-doing (LatWait l) = OnCounts Latches (Begin l true)
-doing (LatWaito l) = OnCounts Latches (Begin l false)
-doing (LatPoll f w) = OnCounts Latches (Poll f w)
-doing (LatEnd f) = OnCounts Latches (EndWait f)
-doing (LatDrop l) = OnCounts Latches (EndHolder l)
-doing WgNew = OnCounts Groups (Make new_group)
-doing (WgClone k) = OnCounts Groups (Join k)
-doing (WgInto k) = OnCounts Groups (Into k)
-doing (WgCopy f) = OnCounts Groups (Copy f)
-doing (WgPoll f w) = OnCounts Groups (Poll f w)
-doing (WgEnd x) = OnCounts Groups (EndEither x)
-doing SdNew = OnCounts Shutdowns (Make new_shutdown)
-doing (SdCopys k) = OnCounts Shutdowns (CopySender k)
-doing (SdCopyr k) = OnCounts Shutdowns (Join k)
-doing (SdSignal k) = OnCounts Shutdowns (Send k)
-doing (SdNow k) = OnCounts Shutdowns (Now k)
-doing (SdWatch k) = OnCounts Shutdowns (Watch k)
-doing (SdIs k) = OnCounts Shutdowns (Begin k true)
-doing (SdIso k) = OnCounts Shutdowns (Begin k false)
-doing (SdAwait k) = OnCounts Shutdowns (Await k)
-doing (SdPoll f w) = OnCounts Shutdowns (Poll f w)
-doing (SdEnd f) = OnCounts Shutdowns (EndWait f)
-doing (SdEnds k) = OnCounts Shutdowns (EndSender k)
-doing (SdEndr k) = OnCounts Shutdowns (EndHolder k)
+abbrev pub meaning_of : MeetEvent → Meaning
+meaning_of (BarNew n) = OnBarriers (at_barriers.Make n)
+meaning_of (BarWait b) = OnBarriers (at_barriers.Begin b)
+meaning_of (BarPoll f w) = OnBarriers (at_barriers.Poll f w)
+meaning_of (BarEnd f) = OnBarriers (at_barriers.End f)
+meaning_of (BarDrop b) = OnBarriers (at_barriers.Drop b)
+meaning_of (LatNew n) = OnCounts Latches (Make (latch_from n))
+meaning_of (LatCount l) = OnCounts Latches (Number l)
+meaning_of (LatDown l) = OnCounts Latches (Arrive l 1)
+meaning_of (LatArrive l n) = OnCounts Latches (Arrive l n)
+meaning_of (LatTry l) = OnCounts Latches (Try l)
+meaning_of (LatWait l) = OnCounts Latches (Begin l true)
+meaning_of (LatWaito l) = OnCounts Latches (Begin l false)
+meaning_of (LatPoll f w) = OnCounts Latches (Poll f w)
+meaning_of (LatEnd f) = OnCounts Latches (EndWait f)
+meaning_of (LatDrop l) = OnCounts Latches (EndHolder l)
+meaning_of WgNew = OnCounts Groups (Make new_group)
+meaning_of (WgClone k) = OnCounts Groups (Join k)
+meaning_of (WgInto k) = OnCounts Groups (Into k)
+meaning_of (WgCopy f) = OnCounts Groups (Copy f)
+meaning_of (WgPoll f w) = OnCounts Groups (Poll f w)
+meaning_of (WgEnd x) = OnCounts Groups (EndEither x)
+meaning_of SdNew = OnCounts Shutdowns (Make new_shutdown)
+meaning_of (SdCopys k) = OnCounts Shutdowns (CopySender k)
+meaning_of (SdCopyr k) = OnCounts Shutdowns (Join k)
+meaning_of (SdSignal k) = OnCounts Shutdowns (Send k)
+meaning_of (SdNow k) = OnCounts Shutdowns (Now k)
+meaning_of (SdWatch k) = OnCounts Shutdowns (Watch k)
+meaning_of (SdIs k) = OnCounts Shutdowns (Begin k true)
+meaning_of (SdIso k) = OnCounts Shutdowns (Begin k false)
+meaning_of (SdAwait k) = OnCounts Shutdowns (Await k)
+meaning_of (SdPoll f w) = OnCounts Shutdowns (Poll f w)
+meaning_of (SdEnd f) = OnCounts Shutdowns (EndWait f)
+meaning_of (SdEnds k) = OnCounts Shutdowns (EndSender k)
+meaning_of (SdEndr k) = OnCounts Shutdowns (EndHolder k)

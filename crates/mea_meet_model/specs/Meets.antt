@@ -7,7 +7,7 @@ use Rattle.mea_meet_model.specs.Counts as counts
 use Rattle.mea_meet_model.specs.CountActions.{polled_in, ends_in}
 use Rattle.mea_meet_model.specs.BarrierActions.{polled_at, ends_at}
 use Rattle.mea_meet_model.specs.Hall.{Hall, Kind, Latches, Groups, Shutdowns, empty_hall, part}
-use Rattle.mea_meet_model.specs.Meaning.{Doing, OnBarriers, OnCounts, doing}
+use Rattle.mea_meet_model.specs.Meaning.{Meaning, OnBarriers, OnCounts, meaning_of}
 use Rattle.mea_meet_model.specs.Cause.{cause_of}
 use Rattle.mea_meet_model.specs.Step.{step}
 
@@ -21,7 +21,7 @@ pub record Future : Type 0 where
   pub sort : Sort
   pub name : ℕ
 
-abbrev pub polled_by : Doing → Sort → ℕ → Option ℕ
+abbrev pub polled_by : Meaning → Sort → ℕ → Option ℕ
 polled_by (OnBarriers a) AtBarrier f = polled_at a f
 polled_by (OnCounts Latches a) (Of Latches) f = polled_in a f
 polled_by (OnCounts Groups a) (Of Groups) f = polled_in a f
@@ -30,9 +30,9 @@ polled_by _ _ f = None
 
 -- the waker with which an event polls a future, if it does
 abbrev pub polled : MeetEvent → Future → Option ℕ
-polled e f = polled_by (doing e) f.sort f.name
+polled e f = polled_by (meaning_of e) f.sort f.name
 
-abbrev pub ends_by : Doing → Sort → ℕ → Bool
+abbrev pub ends_by : Meaning → Sort → ℕ → Bool
 ends_by (OnBarriers a) AtBarrier f = ends_at a f
 ends_by (OnCounts Latches a) (Of Latches) f = ends_in a f
 ends_by (OnCounts Groups a) (Of Groups) f = ends_in a f
@@ -41,7 +41,7 @@ ends_by _ _ f = false
 
 -- an event abandons a future
 abbrev pub ends : MeetEvent → Future → Bool
-ends e f = ends_by (doing e) f.sort f.name
+ends e f = ends_by (meaning_of e) f.sort f.name
 
 abbrev pub name : Future → ℕ
 name f = f.name

@@ -8,7 +8,7 @@ use Rattle.mea_meet_model.specs.Counts.{Counts}
 use Rattle.mea_meet_model.specs.CountActions.{act_in, registers_in}
 use Rattle.mea_meet_model.specs.BarrierActions.{act_at, registers_at}
 use Rattle.mea_meet_model.specs.Hall.{Hall, Kind, part, with_part}
-use Rattle.mea_meet_model.specs.Meaning.{Doing, OnBarriers, OnCounts, doing}
+use Rattle.mea_meet_model.specs.Meaning.{Meaning, OnBarriers, OnCounts, meaning_of}
 
 -- an event on meeting points of one kind leaves those of the others as they are
 abbrev pub on_barriers : Hall → Outcome Barriers → Outcome Hall
@@ -17,17 +17,17 @@ on_barriers h o = record { hall = record h { barriers = o.hall }; reply = o.repl
 abbrev pub on_counts : Hall → Kind → Outcome Counts → Outcome Hall
 on_counts h k o = record { hall = with_part h k o.hall; reply = o.reply; wakes = o.wakes }
 
-abbrev pub step_by : Hall → ℕ → Doing → Outcome Hall
+abbrev pub step_by : Hall → ℕ → Meaning → Outcome Hall
 step_by h i (OnBarriers a) = on_barriers h (act_at h.barriers i a)
 step_by h i (OnCounts k a) = on_counts h k (act_in (part h k) i a)
 
 abbrev pub step : Hall → ℕ → MeetEvent → Outcome Hall
-step h i e = step_by h i (doing e)
+step h i e = step_by h i (meaning_of e)
 
-abbrev pub registers_by : Doing → Bool
+abbrev pub registers_by : Meaning → Bool
 registers_by (OnBarriers a) = registers_at a
 registers_by (OnCounts k a) = registers_in a
 
 -- the events that may register a waker
 abbrev pub registers : MeetEvent → Bool
-registers e = registers_by (doing e)
+registers e = registers_by (meaning_of e)

@@ -1,5 +1,5 @@
 -- a key is taken out; a future of no round is settled
-use Rattle.std.proofs.Common.{◌≡◌, ℕ, ◌-◌, ◌≤◌, ◌==◌, ◌++◌, ◌⊎◌, inl, inr, Bool, true, false, cond, length, List, [], ◌∷◌, Option, Some, None, is_some, option_map, nat_eq, refl, ap, sym, subst, ◌∙◌, arith, append-nil}
+use Rattle.std.proofs.Common.{◌≡◌, ℕ, ◌-◌, ◌≤◌, ◌==◌, ◌++◌, ◌⊎◌, inl, inr, Bool, true, false, cond, length, List, [], ◌∷◌, Option, Some, None, option_map, nat_eq, refl, ap, sym, subst, ◌∙◌, arith, append-nil}
 use Rattle.std.proofs.lemmas.Bool.{eq-eqb, ne_eqb, cases_eq}
 use Rattle.std.specs.FinMap.{get, insert, remove}
 use Rattle.mea_family.specs.declared.answer.Answer.TheVariants as answer_is
@@ -75,13 +75,6 @@ cell_room once e f x i s n of =
     omega (arith, start.queue, at-most e.keyed.table.slots (its_round once e f x i s n of).entry, total-has (λ n (r : Round). of_running r.running) e.rounds n (its_round once e f x i s n of) (its_there once e f x i s n of))
 
 -- ---- a key is taken out
-pub without_named : {X : Type 0} (b : Bool) (m : Names X) (k : ℕ) → b ≡ is_some (get m k) → cond b (remove m k) m ≡ remove m k
-without_named {X} b m k is = at (get m k) refl
-  where
-    at : (o : Option X) → get m k ≡ o → cond b (remove m k) m ≡ remove m k
-    at None none = ap (λ b. cond b (remove m k) m) (is ∙ ap is_some none) ∙ sym (gone_none m k none)
-    at (Some x) some = ap (λ b. cond b (remove m k) m) (is ∙ ap is_some some)
-
 -- an entry that its key does not have any more has its cell still where it has a caller
 unlisted_some : (z : Entry) → 1 ≤ z.callers → unlisted z ≡ Some (record z { listed = false })
 unlisted_some z some = ap (λ b. cond b None (Some (record z { listed = false }))) (ne_eqb z.callers 0 (λ none. absurd (omega arith)))

@@ -3,6 +3,7 @@ mod Permits
 mod OneCell
 mod Steps
 mod Others
+mod Causes
 mod PartEvents
 mod KeyCells
 mod KeySteps

@@ -1,13 +1,12 @@
 -- what each event does to the cells of one kind, as they are kept and as they are seen
-use Rattle.std.proofs.Common.{◌≡◌, ℕ, ◌+◌, ◌-◌, ◌<◌, ◌≤◌, ◌^◌, ◌==◌, ◌++◌, Bool, true, false, cond, length, List, [], ◌∷◌, Option, Some, None, option_map, is_some, nat_lt, refl, ap, sym, subst, ◌∙◌, arith, append-nil, if◌then◌else◌}
+use Rattle.std.proofs.Common.{◌≡◌, ℕ, ◌+◌, ◌-◌, ◌<◌, ◌≤◌, ◌^◌, ◌==◌, ◌++◌, Bool, true, false, cond, length, List, [], ◌∷◌, Option, Some, None, option_map, is_some, refl, ap, sym, subst, ◌∙◌, arith, append-nil, if◌then◌else◌}
 use Rattle.std.specs.Option.{IsSome}
 use Rattle.std.specs.FinMap.{get, insert, remove, len, empty, len-empty}
 use Rattle.std.specs.Ordering.{nat_cmp}
 use Rattle.std.proofs.lemmas.List.{length-append}
-use Rattle.mea_family.specs.Causes.{borrowed_by}
+use Rattle.mea_family.specs.Causes.{unknown_unless, borrowed_by}
 use Rattle.mea_family.specs.declared.answer.Answer.{Answer}
 use Rattle.mea_family.specs.declared.answer.Answer.TheVariants as answers
-use Rattle.mea_family.specs.declared.stop.Stop.TheVariants as stops
 use Rattle.mea_family.specs.Family.{Outcome, quietly}
 use Rattle.mea_base.specs.Ready.{Waking}
 use Rattle.mea_base.specs.Totals.{total, weight}
@@ -21,7 +20,7 @@ use Rattle.mea_by_name.specs.LackingQueue.{who}
 use Rattle.mea_by_name.proofs.LackingQueues.{length-who}
 use Rattle.mea_by_name.proofs.Cases.{found_is}
 use Rattle.mea_by_name.proofs.Halls as halls
-use Rattle.mea_by_name.proofs.Own.{seen-at, seen-empty, seen-insert, seen-remove, seen-alike, own-seen, len-seen, total-seen, own-at, own-had, own-none, own-put, own-gone, count-least, own-empty, insert_same, put_gone, Moves, Stays, Comes, Goes}
+use Rattle.mea_by_name.proofs.Own.{seen-at, seen-empty, seen-insert, seen-remove, seen-alike, own-seen, len-seen, total-seen, own-at, own-had, own-none, own-put, own-gone, count-least, own-empty, insert_same, put_gone, gone_none, Moves, Stays, Comes, Goes}
 use Rattle.mea_cores_by_name.specs.Linked.{names_in}
 use Rattle.mea_cores_by_name.specs.SetLinked.{AreBelow, names_of, set_names}
 use Rattle.mea_cores_by_name.proofs.Sets.{below_absent}
@@ -37,6 +36,7 @@ use Rattle.mea_once.specs.Cores.{NamedCell, IsSoundCell}
 use Rattle.mea_once.specs.Entries.{KeptCell, begun, keeps, of_running, left_by}
 use Rattle.mea_once.specs.Parts.{is_polled, cell_seen, future_seen, cells_seen, runner_of, fits, gives_nothing, AreKept, Stands, Stepped, turned_to, IsOf, of_future, of_none, AreKeptCells, IsNewCell, FitsSettled}
 use Rattle.mea_once.specs.Lends.{StandsFor}
+use Rattle.mea_once.proofs.Causes.{borrowed_at}
 use Rattle.mea_once.proofs.OneCell.{begins, idle, new_tied}
 use Rattle.mea_cores_by_name.proofs.Waiters.{length-names}
 
@@ -81,6 +81,13 @@ module _ (once : Bool) {old : Part Cells} (es : Names KeptCell) (fs : Names Futu
   pub cell_of : (o : ℕ) (p : Option KeptCell) → get es o ≡ p → is_some p ≡ is_cell old.hall o
   cell_of o p is = sym (is_some-map cell_seen p) ∙ ap (λ q. is_some (option_map cell_seen q)) (sym is) ∙ ap is_some (sym (get-seen (λ k e. cell_seen e) es o)) ∙ ap (λ (p : Part Cells). is_cell p.hall o) view
 
+  -- why a future is not polled or ended, and why it is not settled
+  pub future_cause : (f : ℕ) (p : Option FutureEntry) → get fs f ≡ p → unknown_unless (is_future old.hall f) ≡ unknown_unless (is_some p)
+  future_cause f p is = ap unknown_unless (sym (future_of f) ∙ ap is_some is)
+
+  pub settle_cause : (f : ℕ) (p : Option FutureEntry) → get fs f ≡ p → unknown_unless (is_unsettled old.hall f) ≡ unknown_unless (settles_in (option_map future_seen p))
+  settle_cause f p is = ap unknown_unless (sym (unsettled_of f p is))
+
   module _ (kept : AreKeptCells once es fs next) (o : ℕ) (e : KeptCell) (there : get es o ≡ Some e) where
     own_seen : own (λ (x : CellFuture). x.cell) o (seen future_seen fs) ≡ seen future_seen (own of_future o fs)
     own_seen = own-seen of_future (λ (x : CellFuture). x.cell) future_seen (λ x. refl) o fs
@@ -101,12 +108,24 @@ module _ (once : Bool) {old : Part Cells} (es : Names KeptCell) (fs : Names Futu
       waits = refl;
     }
 
--- why a use is refused: unknown, or borrowed by so many
-pub refused_by : (b : Bool) (h : Cells) (o n m : ℕ) → is_cell h o ≡ true → b ≡ nat_lt 0 n → m ≡ n → (if b then Some stops.Borrowed else None) ≡ borrowed_by (is_cell h o) m
-refused_by b h o n m there test same = ap (λ t. if t then Some stops.Borrowed else None) (test ∙ ap (nat_lt 0) (sym same)) ∙ sym (ap (λ k. borrowed_by k m) there)
+  -- why a use of a cell is refused: for who shares it, for who uses it alone, and for a new future
+  module _ (kept : AreKeptCells once es fs next) (o : ℕ) where
+    borrowed_is : (m : ℕ) (n : KeptCell → ℕ) → ((e : KeptCell) → get es o ≡ Some e → m ≡ n e) → (p : Option KeptCell) → get es o ≡ p → borrowed_by (is_cell old.hall o) m ≡ borrowed_at n p
+    borrowed_is m n so None is = ap (λ k. borrowed_by k m) (sym (cell_of o None is))
+    borrowed_is m n so (Some e) is = ap (λ k. borrowed_by k m) (sym (cell_of o (Some e) is)) ∙ ap (borrowed_by true) (so e is)
 
-pub refused_unknown : (h : Cells) (o m : ℕ) → is_cell h o ≡ false → Some stops.Unknown ≡ borrowed_by (is_cell h o) m
-refused_unknown h o m none = sym (ap (λ k. borrowed_by k m) none)
+    pub use_cause : (p : Option KeptCell) → get es o ≡ p → borrowed_by (is_cell old.hall o) (alone_of old.hall o) ≡ borrowed_at (λ (e : KeptCell). e.alone) p
+    use_cause = borrowed_is (alone_of old.hall o) (λ e. e.alone) (alone_are kept o)
+
+    pub whole_cause : (p : Option KeptCell) → get es o ≡ p → borrowed_by (is_cell old.hall o) (futures_of old.hall o) ≡ borrowed_at (λ (e : KeptCell). e.futures) p
+    whole_cause = borrowed_is (futures_of old.hall o) (λ e. e.futures) (futures_are kept o)
+
+    pub begin_cause : (job : Job) (p : Option KeptCell) → get es o ≡ p → borrowed_by (is_cell old.hall o) (in_the_way old.hall o job) ≡ borrowed_at (λ (e : KeptCell). if is_alone job then e.futures else e.alone) p
+    begin_cause job = borrowed_is (in_the_way old.hall o job) (λ e. if is_alone job then e.futures else e.alone) (λ e is. so (is_alone job) e is)
+      where
+        so : (b : Bool) (e : KeptCell) → get es o ≡ Some e → (if b then futures_of old.hall o else alone_of old.hall o) ≡ (if b then e.futures else e.alone)
+        so true e is = futures_are kept o e is
+        so false e is = alone_are kept o e is
 
 -- ---- cells of one kind before event number i
 pub record Site (once : Bool) (old : Part Cells) (i : ℕ) : Type 0 where
@@ -153,9 +172,6 @@ module _ (once : Bool) {old : Part Cells} {i : ℕ} (s : Site once old i) where
   }))
 
   -- ---- what is there
-  pub future_there : (f : ℕ) → is_future old.hall f ≡ true → IsSome (get s.fs f)
-  future_there f is = future_of once s.es s.fs s.next s.view f ∙ is
-
   pub cell_there : (o : ℕ) → is_cell old.hall o ≡ true → IsSome (get s.es o)
   cell_there o is = cell_of once s.es s.fs s.next s.view o (get s.es o) refl ∙ is
 
@@ -168,6 +184,17 @@ module _ (once : Bool) {old : Part Cells} {i : ℕ} (s : Site once old i) where
 
   pub rests : AreKeptCells once s.es s.fs (i + 1)
   rests = record { hall = halls.rests of_future of_none (Good once) (λ e. e.futures) s.es s.fs empty s.next i s.kept.hall s.later s.fits; low = low_old }
+
+  -- a look at a future changes nothing, nor does taking one that is not there
+  pub looked_at : (f : ℕ) (x : FutureEntry) → get s.fs f ≡ Some x → (AreKeptCells once s.es (insert s.fs f x) s.next) × (part_of s.es (insert s.fs f x) s.next ≡ old)
+  looked_at f x there = rw (insert_same s.fs f x there) (s.kept, s.view)
+
+  pub untaken : (f : ℕ) → get s.fs f ≡ None → (AreKeptCells once s.es (remove s.fs f) s.next) × (part_of s.es (remove s.fs f) s.next ≡ old)
+  untaken f none = rw (gone_none s.fs f none) (s.kept, s.view)
+
+  -- a future's cell is there
+  pub its_cell : (f : ℕ) (x : FutureEntry) → get s.fs f ≡ Some x → IsSome (get s.es x.cell)
+  its_cell f x there = (s.kept.hall.firsts.at f x there).1
 
   -- ---- a cell is made
   pub made : (c : NamedCell) → IsNewCell c c.value

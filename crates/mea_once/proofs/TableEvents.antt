@@ -1,12 +1,11 @@
 -- what each event does to the maps or groups, as they are kept and as they are seen
-use Rattle.std.proofs.Common.{◌≡◌, ℕ, ◌+◌, ◌<◌, ◌≤◌, ◌^◌, ◌++◌, Bool, true, false, cond, length, [], Option, Some, None, option_map, is_some, nat_lt, refl, ap, sym, subst, ◌∙◌, arith, if◌then◌else◌}
+use Rattle.std.proofs.Common.{◌≡◌, ℕ, ◌+◌, ◌<◌, ◌≤◌, ◌^◌, ◌++◌, Bool, true, false, cond, length, [], Option, Some, None, option_map, is_some, refl, ap, sym, subst, ◌∙◌, arith, if◌then◌else◌}
 use Rattle.std.specs.Option.{IsSome}
 use Rattle.std.specs.FinMap.{get, insert, remove, len, empty, len-empty, get-empty}
 use Rattle.std.specs.Ordering.{nat_cmp}
-use Rattle.mea_family.specs.Causes.{borrowed_by}
+use Rattle.mea_family.specs.Causes.{unknown_unless, borrowed_by}
 use Rattle.mea_family.specs.declared.answer.Answer.{Answer}
 use Rattle.mea_family.specs.declared.answer.Answer.TheVariants as answers
-use Rattle.mea_family.specs.declared.stop.Stop.TheVariants as stops
 use Rattle.mea_family.specs.Family.{Outcome, quietly}
 use Rattle.mea_base.specs.Ready.{Waking}
 use Rattle.mea_base.specs.Totals.{total, weight}
@@ -19,7 +18,7 @@ use Rattle.mea_by_name.specs.HallKept.{HallKept}
 use Rattle.mea_family.specs.Play.{Part, PartYields, PartRests, found, content}
 use Rattle.mea_by_name.proofs.Cases.{found_is}
 use Rattle.mea_by_name.proofs.Halls as halls
-use Rattle.mea_by_name.proofs.Own.{count-least, seen-at, seen-empty, seen-insert, seen-remove, seen-alike, own-seen, len-seen, len-new, total-seen, own-at, own-had, own-none, own-put, own-gone, own-empty, insert_same, put_gone, Moves, Stays, Comes, Goes}
+use Rattle.mea_by_name.proofs.Own.{count-least, seen-at, seen-empty, seen-insert, seen-remove, seen-alike, own-seen, len-seen, len-new, total-seen, own-at, own-had, own-none, own-put, own-gone, own-empty, insert_same, put_gone, gone_none, Moves, Stays, Comes, Goes}
 use Rattle.mea_once_core.specs.Table.{entry_at}
 use Rattle.mea_once_core.specs.Waiting.{waiting_at, waiting_in}
 use Rattle.mea_once_core.proofs.Waits.{same-waiting}
@@ -43,6 +42,7 @@ use Rattle.mea_by_name.specs.declared.named_waker.NamedWaker.{NamedWaker}
 use Rattle.mea_once.specs.Parts as parts
 use Rattle.mea_once.specs.Parts.{of_none}
 use Rattle.mea_once.specs.KeyParts.{values_in, callers_of, kept_cell, round_seen, round_in, table_seen, key_future_seen, tables_seen, IsRound, IsKey, Absent, Computing, Valued, value_of, waiting_of, AreTogether, table_keeps, RoundsBelow, others, turned_to, left_by, IsOfTable, StandsTable, SteppedTable, of_table, AreTables, IsNewKeyed}
+use Rattle.mea_once.proofs.Causes.{borrowed_at}
 use Rattle.mea_once.proofs.PartEvents.{keeps_seen}
 use Rattle.mea_once.proofs.KeySteps.{number}
 use Rattle.mea_once.proofs.KeyTables.{get_values, value_at}
@@ -87,6 +87,20 @@ module _ (once : Bool) {old : Part Tables} (es : Names KeptTable) (fs : Names Ke
   pub futures_are : (kept : AreTables once es fs next) (o : ℕ) (e : KeptTable) → get es o ≡ Some e → futures_of old.hall o ≡ e.futures
   futures_are kept o e there = ap (λ (p : Part Tables). futures_of p.hall o) (sym view) ∙ ap (λ n. len n) (own-seen of_table (λ (x : ModelFuture). x.table) key_future_seen (λ x. refl) o fs) ∙ len-seen key_future_seen (own of_table o fs) ∙ sym (kept.hall.each o e there).futures
 
+  -- why a future is not polled or ended, why it is not settled, and why a map or a group is not used, or not dropped
+  pub future_cause : (f : ℕ) (p : Option KeyFuture) → get fs f ≡ p → unknown_unless (is_future old.hall f) ≡ unknown_unless (is_some p)
+  future_cause f p is = ap unknown_unless (sym (future_of f) ∙ ap is_some is)
+
+  pub settle_cause : (f : ℕ) (p : Option KeyFuture) → get fs f ≡ p → unknown_unless (is_unsettled old.hall f) ≡ unknown_unless (settles_in (option_map key_future_seen p))
+  settle_cause f p is = ap unknown_unless (sym (unsettled_of f p is))
+
+  pub table_cause : (o : ℕ) (p : Option KeptTable) → get es o ≡ p → unknown_unless (is_table old.hall o) ≡ unknown_unless (is_some p)
+  table_cause o p is = ap unknown_unless (sym (table_of o p is))
+
+  pub drop_cause : (kept : AreTables once es fs next) (o : ℕ) (p : Option KeptTable) → get es o ≡ p → borrowed_by (is_table old.hall o) (futures_of old.hall o) ≡ borrowed_at (λ (e : KeptTable). e.futures) p
+  drop_cause kept o None is = ap (λ k. borrowed_by k (futures_of old.hall o)) (sym (table_of o None is))
+  drop_cause kept o (Some e) is = ap (λ k. borrowed_by k (futures_of old.hall o)) (sym (table_of o (Some e) is)) ∙ ap (borrowed_by true) (futures_are kept o e is)
+
   pub stands_for : (kept : AreTables once es fs next) (o : ℕ) (e : KeptTable) → get es o ≡ Some e → StandsForTable old.hall o e.keyed
   stands_for kept o e there = record {
     table = table_seen e;
@@ -110,12 +124,6 @@ module _ (once : Bool) {old : Part Tables} (es : Names KeptTable) (fs : Names Ke
       absent k none gone (Absent num _) = num
       absent k none gone (Computing q r z num is there_is key entry empty_is listed) = absurd (cc)
       absent k none gone (Valued m v z num _ entry full listed map_only round) = absurd (let some : get (table_seen e).values k ≡ Some v = get_values e.keyed.table e.keyed.table.pairs k ∙ ap (value_at e.keyed.table) num ∙ ap value_of entry ∙ full in cc)
-
-pub drop_known : (b : Bool) (h : Tables) (o n m : ℕ) → is_table h o ≡ true → b ≡ nat_lt 0 n → m ≡ n → (if b then Some stops.Borrowed else None) ≡ borrowed_by (is_table h o) m
-drop_known b h o n m there test same = ap (λ t. if t then Some stops.Borrowed else None) (test ∙ ap (nat_lt 0) (sym same)) ∙ sym (ap (λ k. borrowed_by k m) there)
-
-pub drop_unknown : (h : Tables) (o m : ℕ) → is_table h o ≡ false → Some stops.Unknown ≡ borrowed_by (is_table h o) m
-drop_unknown h o m none = sym (ap (λ k. borrowed_by k m) none)
 
 -- ---- a table before event number i
 pub record Site (once : Bool) (old : Part Tables) (i : ℕ) : Type 0 where
@@ -161,9 +169,6 @@ module _ (once : Bool) {old : Part Tables} {i : ℕ} (s : Site once old i) where
   }))
 
   -- ---- what is there
-  pub future_there : (f : ℕ) → is_future old.hall f ≡ true → IsSome (get s.fs f)
-  future_there f is = future_of once s.es s.fs s.next s.view f ∙ is
-
   pub table_there : (o : ℕ) → is_table old.hall o ≡ true → IsSome (get s.es o)
   table_there o is = table_of once s.es s.fs s.next s.view o (get s.es o) refl ∙ is
 
@@ -176,6 +181,17 @@ module _ (once : Bool) {old : Part Tables} {i : ℕ} (s : Site once old i) where
 
   pub rests : AreTables once s.es s.fs (i + 1)
   rests = record { hall = halls.rests of_table of_none (Good once) (λ e. e.futures) s.es s.fs empty s.next i s.kept.hall s.later s.fits; low = low_old }
+
+  -- a look at a future changes nothing, nor does taking one that is not there
+  pub looked_at : (f : ℕ) (x : KeyFuture) → get s.fs f ≡ Some x → (AreTables once s.es (insert s.fs f x) s.next) × (part_of s.es (insert s.fs f x) s.next ≡ old)
+  looked_at f x there = rw (insert_same s.fs f x there) (s.kept, s.view)
+
+  pub untaken : (f : ℕ) → get s.fs f ≡ None → (AreTables once s.es (remove s.fs f) s.next) × (part_of s.es (remove s.fs f) s.next ≡ old)
+  untaken f none = rw (gone_none s.fs f none) (s.kept, s.view)
+
+  -- a future's map or group is there
+  pub its_table : (f : ℕ) (x : KeyFuture) → get s.fs f ≡ Some x → IsSome (get s.es x.table)
+  its_table f x there = (s.kept.hall.firsts.at f x there).1
 
   -- ---- one is made
   new_together : (k : NamedKeyed) → IsNewKeyed k → AreTogether once (record { keyed = k; current = empty; rounds = empty; futures = 0 }) empty

@@ -4,11 +4,11 @@ use Rattle.std.specs.FinMap.{get, remove, len}
 use Rattle.std.proofs.lemmas.Bool.{eqb-true, eqb-false, eq-eqb}
 use Rattle.mea_base.proofs.Maps.{inside, value_in, is_there, get-removed_other}
 use Rattle.mea_by_name.specs.declared.named_waker.NamedWaker.{NamedWaker}
-use Rattle.mea_by_name.specs.ByName.{Names, seen, own, count}
+use Rattle.mea_by_name.specs.ByName.{Names, seen, own}
 use Rattle.mea_by_name.specs.NamedQueue.{waits, waker_for}
 use Rattle.mea_by_name.specs.LackingQueue.{who}
 use Rattle.mea_by_name.proofs.Own.{seen-at, seen-back, own-seen, own-had, own-at, len-seen, count-gone}
-use Rattle.mea_sem_core.specs.Core.{Core, Acquires, Owes, HasNoDebt, waiting, held_of}
+use Rattle.mea_sem_core.specs.Core.{Acquires, Owes, HasNoDebt, waiting, held_of}
 use Rattle.mea_sem_core.specs.Ones.{AskForOne}
 use Rattle.mea_sem_core.specs.declared.acquire.Acquire.{Acquire}
 use Rattle.mea_sem_core.specs.declared.acquire.Acquire.TheVariants as acquire
@@ -18,8 +18,8 @@ use Rattle.mea_once_core.specs.declared.cell_stage.CellStage.{CellStage}
 use Rattle.mea_once_core.specs.declared.cell_stage.CellStage.TheVariants.{New, Queued, Running, Done}
 use Rattle.mea_once_core.specs.Links.{Shown}
 use Rattle.mea_once_core.specs.Table.{entry_at}
-use Rattle.mea_once_model.specs.Cells.{Cell, CellFuture, is_alone}
-use Rattle.mea_once_model.specs.Tables.{Table, KeyFuture as ModelFuture, caller}
+use Rattle.mea_once_model.specs.Cells.{CellFuture, is_alone}
+use Rattle.mea_once_model.specs.Tables.{KeyFuture as ModelFuture, caller}
 use Rattle.mea_once_model.specs.KeyValid.{IsValidTable, IsValidFuture}
 use Rattle.mea_once_model.specs.Valid as valid
 use Rattle.mea_once_model.specs.Valid.{has_turn, IsCell, HasCells, callers_in, IsTable, HasTables}
@@ -30,7 +30,7 @@ use Rattle.mea_once.specs.declared.round.Round.{Round}
 use Rattle.mea_once.specs.Entries.{KeptCell}
 use Rattle.mea_once.specs.Parts.{is_polled, runner_of, cell_seen, future_seen, cells_seen, runs_at, acquire_at, acquire_of, is_running, StageFits, is_caller, MayRun, AreKept, of_future, AreKeptCells}
 use Rattle.mea_once.specs.KeyEntries.{KeptTable}
-use Rattle.mea_once.specs.KeyParts.{slot_of, kept_cell, round_in, round_seen, table_seen, key_future_seen, tables_seen, as_caller, of_round, callers_of, IsKey, Absent, Computing, Valued, CallFits, value_of, AreTogether, of_table, AreTables}
+use Rattle.mea_once.specs.KeyParts.{slot_of, kept_cell, round_seen, table_seen, key_future_seen, tables_seen, as_caller, of_round, callers_of, IsKey, Absent, Computing, Valued, CallFits, value_of, AreTogether, of_table, AreTables}
 use Rattle.mea_once.proofs.Permits.{granted_sum, sum_without, shares}
 use Rattle.mea_once.proofs.OneCell.{Queue, no_debts, fits_any, running_held, unqueued}
 use Rattle.mea_once.proofs.KeyTables.{get_values, value_at}

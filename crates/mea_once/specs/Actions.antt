@@ -7,9 +7,7 @@ use Rattle.mea_once_model.specs.KeyActions.{KeyAction}
 use Rattle.mea_once_model.specs.Meaning as model
 use Rattle.mea_once_model.specs.Meaning.{on_onces, on_values, on_maps, on_groups}
 use Rattle.mea_once.specs.declared.actions.TurnAction.{TurnAction}
-use Rattle.mea_once.specs.declared.actions.TurnAction.TheVariants.{Make, Begin, Settle, End, TellFull, Tell, Drop}
-use Rattle.mea_once.specs.declared.actions.WaitAction.{WaitAction}
-use Rattle.mea_once.specs.declared.actions.WaitAction.TheVariants as wait
+use Rattle.mea_once.specs.declared.actions.TurnAction.TheVariants.{Make, Begin, Poll, Settle, End, TellFull, Tell, Drop}
 use Rattle.mea_once.specs.declared.actions.WholeAction.{WholeAction}
 use Rattle.mea_once.specs.declared.actions.WholeAction.TheVariants as whole
 use Rattle.mea_once.specs.declared.actions.TableAction.{TableAction}
@@ -17,28 +15,22 @@ use Rattle.mea_once.specs.declared.actions.TableAction.TheVariants as table
 use Rattle.mea_once.specs.declared.actions.ValueAction.{ValueAction}
 use Rattle.mea_once.specs.declared.actions.ValueAction.TheVariants as value
 use Rattle.mea_once.specs.declared.meaning.Meaning.{Meaning}
-use Rattle.mea_once.specs.declared.meaning.Meaning.TheVariants.{Onces, Values, Maps, Groups}
+use Rattle.mea_once.specs.declared.meaning.Meaning.TheVariants.{Onces, Cells, Wholes, Maps, Values, Groups}
 use Rattle.mea_once.specs.Parts.{fits, FitsSettled}
 
 -- what may be done to a call that runs once and to a cell
 abbrev pub turn_action : TurnAction → Action
 turn_action Make = cells.Make None
 turn_action (Begin o job) = cells.Begin o job
+turn_action (Poll f w) = cells.Poll f w
 turn_action (Settle f r) = cells.Settle f r
 turn_action (End f) = cells.End f
 turn_action (TellFull o) = cells.TellFull o
 turn_action (Tell o) = cells.Tell o
 turn_action (Drop o) = cells.Drop o
 
--- what is done to a call that runs once
-abbrev pub wait_action : WaitAction → Action
-wait_action (wait.Turn a) = turn_action a
-wait_action (wait.Poll f w) = cells.Poll f w
-
--- what is done to a cell
+-- what is done to a cell alone
 abbrev pub whole_action : WholeAction → Action
-whole_action (whole.Turn a) = turn_action a
-whole_action (whole.Poll f w) = cells.Poll f w
 whole_action (whole.MakeFull v) = cells.Make (Some v)
 whole_action (whole.Peek o) = cells.Peek o
 whole_action (whole.Put o v) = cells.Put o v
@@ -55,17 +47,18 @@ table_action (table.End f) = tables.EndKey f
 table_action (table.Discard o k) = tables.DiscardKey o k
 table_action (table.Drop o) = tables.DropTable o
 
--- what is done to a map
+-- what is done to a map alone
 abbrev pub value_action : ValueAction → KeyAction
-value_action (value.Table a) = table_action a
 value_action (value.Tell o k) = tables.TellKey o k
 value_action (value.Remove o k) = tables.RemoveKey o k
 
 -- what a line means, in the words of the model
 abbrev pub meant : Meaning → model.Meaning
-meant (Onces a) = on_onces (wait_action a)
-meant (Values a) = on_values (whole_action a)
-meant (Maps a) = on_maps (value_action a)
+meant (Onces a) = on_onces (turn_action a)
+meant (Cells a) = on_values (turn_action a)
+meant (Wholes a) = on_values (whole_action a)
+meant (Maps a) = on_maps (table_action a)
+meant (Values a) = on_maps (value_action a)
 meant (Groups a) = on_groups (table_action a)
 
 -- the jobs of a call that runs once are its own, and what its initialisers give tells nothing
@@ -74,15 +67,7 @@ FitsTurn once (Begin o job) = fits once job ≡ true
 FitsTurn once (Settle f r) = FitsSettled once r
 FitsTurn once _ = Unit {0}
 
-abbrev pub FitsWait : WaitAction → Type 0
-FitsWait (wait.Turn a) = FitsTurn true a
-FitsWait (wait.Poll f w) = Unit {0}
-
-abbrev pub FitsWhole : WholeAction → Type 0
-FitsWhole (whole.Turn a) = FitsTurn false a
-FitsWhole _ = Unit {0}
-
 abbrev pub FitsMeaning : Meaning → Type 0
-FitsMeaning (Onces a) = FitsWait a
-FitsMeaning (Values a) = FitsWhole a
+FitsMeaning (Onces a) = FitsTurn true a
+FitsMeaning (Cells a) = FitsTurn false a
 FitsMeaning _ = Unit {0}

@@ -7,3 +7,4 @@ pub mod KeyEntries
 pub mod KeyParts
 pub mod Halls
 pub mod Lends
+pub mod Acts

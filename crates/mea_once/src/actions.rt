@@ -7,6 +7,8 @@ pub enum TurnAction {
     Make,
     /// Makes a future that does this: `o`, job.
     Begin(u64, Job),
+    /// Polls a future: `f`, waker.
+    Poll(u64, u64),
     /// Settles the initialiser of a future: `f`, what it comes to.
     Settle(u64, Initialiser),
     /// Ends a future.
@@ -19,22 +21,9 @@ pub enum TurnAction {
     Drop(u64),
 }
 
-/// What a line does to a call that runs once.
-#[derive(Clone, Copy)]
-pub enum WaitAction {
-    /// What it may do to a cell too.
-    Turn(TurnAction),
-    /// Polls a future: `f`, waker.
-    Poll(u64, u64),
-}
-
-/// What a line does to a cell.
+/// What a line does to a cell alone.
 #[derive(Clone, Copy)]
 pub enum WholeAction {
-    /// What it may do to a call that runs once too.
-    Turn(TurnAction),
-    /// Polls a future: `f`, waker.
-    Poll(u64, u64),
     /// Makes a cell with this value.
     MakeFull(u64),
     /// Tells the value of a cell that has no future.
@@ -66,11 +55,9 @@ pub enum TableAction {
     Drop(u64),
 }
 
-/// What a line does to a map.
+/// What a line does to a map alone.
 #[derive(Clone, Copy)]
 pub enum ValueAction {
-    /// What it may do to a group too.
-    Table(TableAction),
     /// Tells the value of a key: `o`, `k`.
     Tell(u64, u64),
     /// Takes a key out, and tells its value: `o`, `k`.

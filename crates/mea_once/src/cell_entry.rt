@@ -1,4 +1,4 @@
-ghost use Rattle.std.specs.Prelude.{ℕ, ◌≡◌, ◌+◌, ◌-◌, ◌<◌, ◌≤◌, ◌^◌, ◌++◌, [], nat_lt, length, map, cond, true, false, is_some, Some, None, IfOk, OnErr};
+ghost use Rattle.std.specs.Prelude.{ℕ, ◌≡◌, ◌+◌, ◌-◌, ◌<◌, ◌≤◌, ◌^◌, ◌++◌, [], nat_lt, length, map, cond, true, false, is_some, Some, None, IfOk, OnErr, if◌then◌else◌};
 ghost use Rattle.mea_sem_core.specs.Core.{held_of};
 ghost use Rattle.mea_once_model.specs.Cells.{init_of, is_alone, settled, poll, settle, end};
 ghost use Rattle.mea_once.specs.Cores.{IsSoundCell, TurnFits, TurnIsQuiet};
@@ -77,6 +77,17 @@ impl<C: TurnCore> CellEntry<C> {
         ensures { result ≡ nat_lt 0 self.now.alone }
     {
         self.alone > 0
+    }
+
+    /// Whether a future of it is in the way of a new one that does this.
+    pub fn is_closed_to(&self, job: Job) -> bool
+        ensures { result ≡ nat_lt 0 (if is_alone job then self.now.futures else self.now.alone) }
+    {
+        if is_alone(job) {
+            self.has_futures()
+        } else {
+            self.is_alone()
+        }
     }
 
     /// One future more.

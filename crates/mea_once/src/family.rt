@@ -39,8 +39,8 @@ pub type OnceHall = FamilyHall<OnceFamily, OnceModel>;
 /// their futures, each by the number of the event that made it.
 ///
 /// Each is a core of its own. The waker of who waits carries its future's name, so the core's queue tells who waits for the
-/// turn; the waker that an unsettled initialiser keeps stands with its cell. Each event costs a look-up by name and the
-/// wakers that it makes ready.
+/// turn; the waker that an unsettled initialiser keeps stands with its cell. Each event costs a few look-ups by name
+/// and the wakers that it makes ready.
 #[derive(Drop)]
 pub struct OnceFamily {
     kinds: Kinds,
@@ -140,11 +140,7 @@ impl Family<OnceModel> for OnceFamily {
         ready: &mut Ready<u64>,
     ) -> Result<Answer, Stop> {
         wakes_are_of_the_registered();
-        let meaning = meaning_of(event);
-        if let Some(stop) = self.kinds.cause(meaning) {
-            return Err(stop);
-        }
-        let answer = self.kinds.play(number, meaning, ready)?;
+        let answer = self.kinds.act(number, meaning_of(event), ready)?;
         self.next = number as u128 + 1;
         Ok(answer)
     }

@@ -1,12 +1,11 @@
-ghost use Rattle.std.specs.Prelude.{◌≡◌, ◌≤◌, OnErr, IfOk, IfSome, is_some, None, Some, true};
+ghost use Rattle.std.specs.Prelude.{◌≡◌, ◌≢◌, ◌≤◌, IfSome, is_some, Some};
 ghost use Rattle.mea_family.specs.Causes.{borrowed_by};
-ghost use Rattle.mea_family.specs.Play.{PartYields, PartRests};
 ghost use Rattle.mea_once_model.specs.Tables.{no_tables, is_table, is_future, is_unsettled, futures_of, registered};
-ghost use Rattle.mea_once_model.specs.KeyActions.{key_act, key_cause, MakeTable, BeginKey, PollKey, SettleKey, EndKey, TellKey, DiscardKey, RemoveKey, DropTable};
+ghost use Rattle.mea_once_model.specs.KeyActions.{key_cause, MakeTable, BeginKey, PollKey, SettleKey, EndKey, TellKey, DiscardKey, RemoveKey, DropTable};
 ghost use Rattle.mea_once_model.specs.Valid.{HasTables};
 ghost use Rattle.mea_once.specs.KeyParts.{IsNewKeyed};
 ghost use Rattle.mea_once.specs.Actions.{table_action, value_action};
-ghost use Rattle.mea_once.specs.Halls.{IsKeyFree};
+ghost use Rattle.mea_once.specs.Acts.{KeyActs, KeyActsQuietly};
 ghost use Rattle.mea_once.specs.Lends.{StandsForTable};
 
 use crate::actions::{TableAction, ValueAction};
@@ -15,7 +14,7 @@ use crate::key_future::KeyFuture;
 use crate::scripted::Scripted;
 use crate::table_core::{TableCore, ValueCore};
 use crate::table_entry::TableEntry;
-use mea_base::{NoMemory, Ready};
+use mea_base::Ready;
 use mea_by_name::ByName;
 use mea_family::{Answer, Stop, borrowed_if, unknown_unless};
 use mea_once_core::KeyCall;
@@ -23,8 +22,8 @@ use mea_once_model::Initialiser;
 use std::alloc::Global;
 use std::marker::Model;
 
-/// Maps, or groups, with their futures, each by the number of the event that made it. Each call costs a look-up by name, one
-/// by key, and what its core costs.
+/// Maps, or groups, with their futures, each by the number of the event that made it. Each call costs a few look-ups by name
+/// and by key, and what its core costs.
 #[derive(Drop)]
 pub struct KeyPart<C: TableCore> {
     tables: ByName<TableEntry<C>>,
@@ -92,28 +91,26 @@ impl<C: TableCore> KeyPart<C> {
         }
     }
 
-    /// Does what has no cause for refusal. On an error nothing has changed.
-    pub fn play(
+    /// Does an action, or finds why it is refused. On an error nothing has changed. Memory is taken for what is made and by a
+    /// poll.
+    pub fn act(
         &mut self,
         number: u64,
         action: TableAction,
         ready: &mut Ready<u64>,
-    ) -> Result<Answer, NoMemory>
+    ) -> Result<Answer, Stop>
         requires next { self.old.next ≤ number }
-        requires allowed { key_cause self.old.hall (table_action action) ≡ None }
         requires room { registered self.old.hall ≤ ready.old.registered }
-        ensures ok { IfOk result (λ answer. PartYields registered self.old number (key_act C.is_once self.old.hall number (table_action action)) answer self.new ready.old ready.new) }
-        ensures no_memory { IsKeyFree (table_action action) → OnErr result ⊥ }
-        ensures err { OnErr result ((self.new ≡ self.old) × (ready.new ≡ ready.old)) }
+        ensures { KeyActs C.is_once self.old number (table_action action) result self.new ready.old ready.new }
     {
         match action {
             TableAction::Make => self.make(number, C::empty(self.alloc)),
             TableAction::Begin(o, key) => self.begin(number, o, key),
             TableAction::Poll(f, waker) => self.poll(number, f, waker, ready),
-            TableAction::Settle(f, outcome) => Ok(self.settle(number, f, outcome, ready)),
-            TableAction::End(f) => Ok(self.end(number, f, ready)),
-            TableAction::Discard(o, key) => Ok(self.discard(number, o, key)),
-            TableAction::Drop(o) => Ok(self.end_table(number, o)),
+            TableAction::Settle(f, outcome) => self.settle(number, f, outcome, ready),
+            TableAction::End(f) => self.end(number, f, ready),
+            TableAction::Discard(o, key) => self.discard(number, o, key),
+            TableAction::Drop(o) => self.end_table(number, o),
         }
     }
 
@@ -141,7 +138,8 @@ impl<C: TableCore> KeyPart<C> {
 
     // Why it may not be dropped: it is unknown, or it has a future.
     fn cause_of_drop(&self, o: u64) -> Option<Stop>
-        ensures { result ≡ borrowed_by (is_table self.now.hall o) (futures_of self.now.hall o) }
+        ensures is { result ≡ borrowed_by (is_table self.now.hall o) (futures_of self.now.hall o) }
+        ensures tells { result ≢ Some Stop.NoMemory }
     {
         match self.tables.get(o) {
             Some(entry) => borrowed_if(entry.has_futures()),
@@ -150,28 +148,27 @@ impl<C: TableCore> KeyPart<C> {
     }
 
     // Makes a map or a group of a new core. On an error nothing has changed.
-    fn make(&mut self, number: u64, core: C) -> Result<Answer, NoMemory>
+    fn make(&mut self, number: u64, core: C) -> Result<Answer, Stop>
         requires next { self.old.next ≤ number }
         requires new { IsNewKeyed (C.seen_as core) }
-        ensures ok { IfOk result (λ answer. PartRests registered self.old number (key_act C.is_once self.old.hall number MakeTable) answer self.new) }
-        ensures err { OnErr result (self.new ≡ self.old) }
+        ensures { KeyActsQuietly C.is_once self.old number MakeTable result self.new }
     {
         let entry = TableEntry::new(self.alloc, core);
         let Ok(()) = self.tables.insert(number, entry) else {
-            return Err(NoMemory);
+            return Err(Stop::NoMemory);
         };
         self.next = number as u128 + 1;
         Ok(Answer::Made)
     }
 
     // Makes a future that computes the value of a key. On an error nothing has changed.
-    fn begin(&mut self, number: u64, o: u64, key: u64) -> Result<Answer, NoMemory>
-        requires next { self.old.next ≤ number }
-        requires there { is_table self.old.hall o ≡ true }
-        ensures ok { IfOk result (λ answer. PartRests registered self.old number (key_act C.is_once self.old.hall number (BeginKey o key)) answer self.new) }
-        ensures err { OnErr result (self.new ≡ self.old) }
+    fn begin(&mut self, number: u64, o: u64, key: u64) -> Result<Answer, Stop>
+        requires { self.old.next ≤ number }
+        ensures { KeyActsQuietly C.is_once self.old number (BeginKey o key) result self.new }
     {
-        let entry = self.tables.at_mut(o);
+        let Some(entry) = self.tables.get_mut(o) else {
+            return Err(Stop::Unknown);
+        };
         let future = KeyFuture {
             table: o,
             key,
@@ -179,7 +176,7 @@ impl<C: TableCore> KeyPart<C> {
             call: KeyCall::new(key, Scripted::unsettled()),
         };
         let Ok(()) = self.futures.insert(number, future) else {
-            return Err(NoMemory);
+            return Err(Stop::NoMemory);
         };
         entry.begin();
         self.next = number as u128 + 1;
@@ -193,25 +190,21 @@ impl<C: TableCore> KeyPart<C> {
         f: u64,
         waker: u64,
         ready: &mut Ready<u64>,
-    ) -> Result<Answer, NoMemory>
+    ) -> Result<Answer, Stop>
         requires next { self.old.next ≤ number }
-        requires there { is_future self.old.hall f ≡ true }
         requires room { registered self.old.hall ≤ ready.old.registered }
-        ensures ok { IfOk result (λ answer.
-            PartYields registered self.old number (key_act C.is_once self.old.hall number (PollKey f waker)) answer self.new ready.old ready.new) }
-        ensures err { OnErr result ((self.new ≡ self.old) × (ready.new ≡ ready.old)) }
+        ensures { KeyActs C.is_once self.old number (PollKey f waker) result self.new ready.old ready.new }
     {
-        let future = self.futures.at_mut(f);
-        let o = future.table;
-        let entry = self.tables.at_mut(o);
-        match entry.poll(number, f, future, waker, ready) {
-            Err(_) => Err(NoMemory),
-            Ok(told) => {
-                self.futures.remove_if(f, told.over);
-                self.next = number as u128 + 1;
-                Ok(told.answer)
-            }
-        }
+        let Some(future) = self.futures.get_mut(f) else {
+            return Err(Stop::Unknown);
+        };
+        let entry = self.tables.at_mut(future.table);
+        let Ok(told) = entry.poll(number, f, future, waker, ready) else {
+            return Err(Stop::NoMemory);
+        };
+        self.futures.remove_if(f, told.over);
+        self.next = number as u128 + 1;
+        Ok(told.answer)
     }
 
     // Settles the initialiser of a future. It takes no memory.
@@ -221,54 +214,62 @@ impl<C: TableCore> KeyPart<C> {
         f: u64,
         outcome: Initialiser,
         ready: &mut Ready<u64>,
-    ) -> Answer
+    ) -> Result<Answer, Stop>
         requires next { self.old.next ≤ number }
-        requires there { is_future self.old.hall f ≡ true }
         requires room { registered self.old.hall ≤ ready.old.registered }
-        ensures { PartYields registered self.old number (key_act C.is_once self.old.hall number (SettleKey f outcome)) result self.new ready.old ready.new }
+        ensures { KeyActs C.is_once self.old number (SettleKey f outcome) result self.new ready.old ready.new }
     {
-        let future = self.futures.at_mut(f);
-        let o = future.table;
-        self.tables.at_mut(o).settle(f, future, outcome, ready);
+        let Some(future) = self.futures.get_mut(f) else {
+            return Err(Stop::Unknown);
+        };
+        if !future.call.call.init.is_unsettled() {
+            return Err(Stop::Unknown);
+        }
+        let entry = self.tables.at_mut(future.table);
+        entry.settle(f, future, outcome, ready);
         self.next = number as u128 + 1;
-        Answer::Done
+        Ok(Answer::Done)
     }
 
     // Ends a future. It takes no memory.
-    fn end(&mut self, number: u64, f: u64, ready: &mut Ready<u64>) -> Answer
+    fn end(&mut self, number: u64, f: u64, ready: &mut Ready<u64>) -> Result<Answer, Stop>
         requires next { self.old.next ≤ number }
-        requires there { is_future self.old.hall f ≡ true }
         requires room { registered self.old.hall ≤ ready.old.registered }
-        ensures { PartYields registered self.old number (key_act C.is_once self.old.hall number (EndKey f)) result self.new ready.old ready.new }
+        ensures { KeyActs C.is_once self.old number (EndKey f) result self.new ready.old ready.new }
     {
-        let future = self.futures.remove(f);
-        let o = future.table;
-        self.tables.at_mut(o).end(f, future, ready);
+        let Some(future) = self.futures.take(f) else {
+            return Err(Stop::Unknown);
+        };
+        let entry = self.tables.at_mut(future.table);
+        entry.end(f, future, ready);
         self.next = number as u128 + 1;
-        Answer::Done
+        Ok(Answer::Done)
     }
 
     // Takes a key out. It takes no memory.
-    fn discard(&mut self, number: u64, o: u64, key: u64) -> Answer
-        requires next { self.old.next ≤ number }
-        requires there { is_table self.old.hall o ≡ true }
-        ensures { PartRests registered self.old number (key_act C.is_once self.old.hall number (DiscardKey o key)) result self.new }
+    fn discard(&mut self, number: u64, o: u64, key: u64) -> Result<Answer, Stop>
+        requires { self.old.next ≤ number }
+        ensures { KeyActsQuietly C.is_once self.old number (DiscardKey o key) result self.new }
     {
-        self.tables.at_mut(o).discard(key);
+        let Some(entry) = self.tables.get_mut(o) else {
+            return Err(Stop::Unknown);
+        };
+        entry.discard(key);
         self.next = number as u128 + 1;
-        Answer::Done
+        Ok(Answer::Done)
     }
 
     // Ends a map or a group that has no future. It takes no memory.
-    fn end_table(&mut self, number: u64, o: u64) -> Answer
-        requires next { self.old.next ≤ number }
-        requires there { is_table self.old.hall o ≡ true }
-        requires alone { futures_of self.old.hall o ≡ 0 }
-        ensures { PartRests registered self.old number (key_act C.is_once self.old.hall number (DropTable o)) result self.new }
+    fn end_table(&mut self, number: u64, o: u64) -> Result<Answer, Stop>
+        requires { self.old.next ≤ number }
+        ensures { KeyActsQuietly C.is_once self.old number (DropTable o) result self.new }
     {
+        if let Some(stop) = self.cause_of_drop(o) {
+            return Err(stop);
+        }
         let _ = self.tables.remove(o);
         self.next = number as u128 + 1;
-        Answer::Done
+        Ok(Answer::Done)
     }
 }
 
@@ -278,55 +279,47 @@ impl<C: ValueCore> KeyPart<C> {
         ensures { result ≡ key_cause self.now.hall (value_action action) }
     {
         match action {
-            ValueAction::Table(action) => self.cause(action),
             ValueAction::Tell(o, _) | ValueAction::Remove(o, _) => {
                 unknown_unless(self.is_table(o))
             }
         }
     }
 
-    /// Does what has no cause for refusal. On an error nothing has changed.
-    pub fn play_value(
-        &mut self,
-        number: u64,
-        action: ValueAction,
-        ready: &mut Ready<u64>,
-    ) -> Result<Answer, NoMemory>
-        requires next { self.old.next ≤ number }
-        requires allowed { key_cause self.old.hall (value_action action) ≡ None }
-        requires room { registered self.old.hall ≤ ready.old.registered }
-        ensures ok { IfOk result (λ answer. PartYields registered self.old number (key_act C.TableCore.is_once self.old.hall number (value_action action)) answer self.new ready.old ready.new) }
-        ensures no_memory { IsKeyFree (value_action action) → OnErr result ⊥ }
-        ensures err { OnErr result ((self.new ≡ self.old) × (ready.new ≡ ready.old)) }
+    /// Does an action, or finds why it is refused. On an error nothing has changed. It takes no memory.
+    pub fn act_value(&mut self, number: u64, action: ValueAction) -> Result<Answer, Stop>
+        requires { self.old.next ≤ number }
+        ensures { KeyActsQuietly C.TableCore.is_once self.old number (value_action action) result self.new }
     {
         match action {
-            ValueAction::Table(action) => self.play(number, action, ready),
-            ValueAction::Tell(o, key) => Ok(self.tell(number, o, key)),
-            ValueAction::Remove(o, key) => Ok(self.remove(number, o, key)),
+            ValueAction::Tell(o, key) => self.tell(number, o, key),
+            ValueAction::Remove(o, key) => self.remove(number, o, key),
         }
     }
 
     // Tells the value of a key. It takes no memory.
-    fn tell(&mut self, number: u64, o: u64, key: u64) -> Answer
-        requires next { self.old.next ≤ number }
-        requires there { is_table self.old.hall o ≡ true }
-        ensures { PartRests registered self.old number (key_act C.TableCore.is_once self.old.hall number (TellKey o key)) result self.new }
+    fn tell(&mut self, number: u64, o: u64, key: u64) -> Result<Answer, Stop>
+        requires { self.old.next ≤ number }
+        ensures { KeyActsQuietly C.TableCore.is_once self.old number (TellKey o key) result self.new }
     {
-        let value = self.tables.at(o).value(key);
+        let Some(entry) = self.tables.get(o) else {
+            return Err(Stop::Unknown);
+        };
+        let value = entry.value(key);
         self.next = number as u128 + 1;
-        content(value)
+        Ok(content(value))
     }
 
     // Takes a key out, and tells its value. It takes no memory.
-    fn remove(&mut self, number: u64, o: u64, key: u64) -> Answer
-        requires next { self.old.next ≤ number }
-        requires there { is_table self.old.hall o ≡ true }
-        ensures { PartRests registered self.old number (key_act C.TableCore.is_once self.old.hall number (RemoveKey o key)) result self.new }
+    fn remove(&mut self, number: u64, o: u64, key: u64) -> Result<Answer, Stop>
+        requires { self.old.next ≤ number }
+        ensures { KeyActsQuietly C.TableCore.is_once self.old number (RemoveKey o key) result self.new }
     {
-        let entry = self.tables.at_mut(o);
+        let Some(entry) = self.tables.get_mut(o) else {
+            return Err(Stop::Unknown);
+        };
         let value = entry.value(key);
         entry.discard(key);
         self.next = number as u128 + 1;
-        content(value)
+        Ok(content(value))
     }
 }

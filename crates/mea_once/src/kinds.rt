@@ -1,16 +1,17 @@
-ghost use Rattle.std.specs.Prelude.{ℕ, ◌≡◌, ◌≤◌, OnErr, IfOk, None};
+ghost use Rattle.std.specs.Prelude.{ℕ, ◌≡◌, ◌≤◌};
 ghost use Rattle.mea_once_model.specs.OnceHall.{empty_hall, registered};
 ghost use Rattle.mea_once_model.specs.Meaning.{cause_by};
 ghost use Rattle.mea_once_model.specs.Valid.{IsValid};
 ghost use Rattle.mea_once.specs.Actions.{meant, FitsMeaning};
-ghost use Rattle.mea_once.specs.Halls.{parts, hall_of, AreBelow, PlaysBy, IsFreeBy};
+ghost use Rattle.mea_once.specs.Halls.{parts, hall_of, AreBelow};
+ghost use Rattle.mea_once.specs.Acts.{ActsBy};
 
 use crate::groups::NamedGroup;
 use crate::key_part::KeyPart;
 use crate::maps::NamedMap;
 use crate::meaning::Meaning;
 use crate::part::CellPart;
-use mea_base::{NoMemory, Ready};
+use mea_base::Ready;
 use mea_by_name::NamedWaker;
 use mea_family::{Answer, Stop};
 use mea_once_core::{CellCore, OnceCore};
@@ -54,36 +55,35 @@ impl Kinds {
         ensures { result ≡ cause_by (hall_of (parts self.now.onces self.now.values self.now.maps self.now.groups)) (meant meaning) }
     {
         match meaning {
-            Meaning::Onces(action) => self.onces.cause_wait(action),
-            Meaning::Values(action) => self.values.cause_whole(action),
-            Meaning::Maps(action) => self.maps.cause_value(action),
+            Meaning::Onces(action) => self.onces.cause(action),
+            Meaning::Cells(action) => self.values.cause(action),
+            Meaning::Wholes(action) => self.values.cause_whole(action),
+            Meaning::Maps(action) => self.maps.cause(action),
+            Meaning::Values(action) => self.maps.cause_value(action),
             Meaning::Groups(action) => self.groups.cause(action),
         }
     }
 
-    /// Plays an event that means this and has no cause for refusal. On an error nothing has changed.
-    pub fn play(
+    /// Plays an event that means this, or finds why it is refused. On an error nothing has changed.
+    pub fn act(
         &mut self,
         number: u64,
         meaning: Meaning,
         ready: &mut Ready<u64>,
-    ) -> Result<Answer, NoMemory>
+    ) -> Result<Answer, Stop>
         requires fits { FitsMeaning meaning }
         requires below { AreBelow (parts self.old.onces self.old.values self.old.maps self.old.groups) number }
         requires room { registered (hall_of (parts self.old.onces self.old.values self.old.maps self.old.groups)) ≤ ready.old.registered }
-        requires allowed { cause_by (hall_of (parts self.old.onces self.old.values self.old.maps self.old.groups)) (meant meaning) ≡ None }
-        ensures played { IfOk result (λ answer.
-            PlaysBy (meant meaning) (parts self.old.onces self.old.values self.old.maps self.old.groups) number answer
-            (parts self.new.onces self.new.values self.new.maps self.new.groups) ready.old ready.new) }
-        ensures no_memory { IsFreeBy (meant meaning) → OnErr result ⊥ }
-        ensures err { OnErr result ((parts self.new.onces self.new.values self.new.maps self.new.groups
-            ≡ parts self.old.onces self.old.values self.old.maps self.old.groups) × (ready.new ≡ ready.old)) }
+        ensures { ActsBy (meant meaning) (parts self.old.onces self.old.values self.old.maps self.old.groups) number result
+            (parts self.new.onces self.new.values self.new.maps self.new.groups) ready.old ready.new }
     {
         match meaning {
-            Meaning::Onces(action) => self.onces.play_wait(number, action, ready),
-            Meaning::Values(action) => self.values.play_whole(number, action, ready),
-            Meaning::Maps(action) => self.maps.play_value(number, action, ready),
-            Meaning::Groups(action) => self.groups.play(number, action, ready),
+            Meaning::Onces(action) => self.onces.act(number, action, ready),
+            Meaning::Cells(action) => self.values.act(number, action, ready),
+            Meaning::Wholes(action) => self.values.act_whole(number, action, ready),
+            Meaning::Maps(action) => self.maps.act(number, action, ready),
+            Meaning::Values(action) => self.maps.act_value(number, action),
+            Meaning::Groups(action) => self.groups.act(number, action, ready),
         }
     }
 }

@@ -16,6 +16,7 @@ mod meaning;
 mod onces;
 mod part;
 mod poll_reply;
+mod polled_core;
 mod round;
 mod scripted;
 mod table_core;

@@ -1,21 +1,20 @@
-ghost use Rattle.std.specs.Prelude.{◌≡◌, ◌≤◌, OnErr, IfOk, IfSome, is_some, None, Some, true, false, if◌then◌else◌};
-ghost use Rattle.std.specs.FinMap.{get};
+ghost use Rattle.std.specs.Prelude.{◌≡◌, ◌≢◌, ◌≤◌, IfSome, is_some, Some, true};
 ghost use Rattle.mea_family.specs.Causes.{borrowed_by};
-ghost use Rattle.mea_family.specs.Play.{PartYields, PartRests};
 ghost use Rattle.mea_once_model.specs.Cells.{no_cells, is_cell, is_future, is_unsettled, futures_of, alone_of, registered};
-ghost use Rattle.mea_once_model.specs.Actions.{act_in, cause_in, Make, Begin, Poll, Settle, End, TellFull, Tell, Peek, Put, Take, TakeOut, Drop, in_the_way};
+ghost use Rattle.mea_once_model.specs.Actions.{cause_in, Make, Begin, Poll, Settle, End, TellFull, Tell, Peek, Put, Take, TakeOut, Drop, in_the_way};
 ghost use Rattle.mea_once_model.specs.Valid.{HasCells};
 ghost use Rattle.mea_once.specs.Parts.{IsNewCell, fits, FitsSettled};
-ghost use Rattle.mea_once.specs.Actions.{turn_action, wait_action, whole_action, FitsTurn, FitsWait, FitsWhole};
-ghost use Rattle.mea_once.specs.Halls.{IsFree};
+ghost use Rattle.mea_once.specs.Actions.{turn_action, whole_action, FitsTurn};
+ghost use Rattle.mea_once.specs.Acts.{CellActs, CellActsQuietly};
 ghost use Rattle.mea_once.specs.Lends.{StandsFor};
 
-use crate::actions::{TurnAction, WaitAction, WholeAction};
+use crate::actions::{TurnAction, WholeAction};
 use crate::cell_entry::CellEntry;
 use crate::future_entry::FutureEntry;
-use crate::jobs::{can_settle, content, done_if, is_alone, yes_if_full};
-use crate::turn_core::{TurnCore, WaitCore, WholeCore};
-use mea_base::{NoMemory, Ready};
+use crate::jobs::{can_settle, content, done_if, yes_if_full};
+use crate::polled_core::PolledCore;
+use crate::turn_core::{TurnCore, WholeCore};
+use mea_base::Ready;
 use mea_by_name::ByName;
 use mea_family::{Answer, Stop, borrowed_if, unknown_unless};
 use mea_meet_core::LatchWait;
@@ -24,8 +23,8 @@ use mea_once_model::{Initialiser, Job};
 use std::alloc::Global;
 use std::marker::Model;
 
-/// The cells of one kind with their futures, each by the number of the event that made it. Each call costs a look-up by name
-/// and the wakers that it makes ready.
+/// The cells of one kind with their futures, each by the number of the event that made it. Each call costs a few look-ups
+/// by name and the wakers that it makes ready.
 #[derive(Drop)]
 pub struct CellPart<C: TurnCore> {
     cells: ByName<CellEntry<C>>,
@@ -85,6 +84,7 @@ impl<C: TurnCore> CellPart<C> {
         match action {
             TurnAction::Make => None,
             TurnAction::Begin(o, job) => self.cause_of_begin(o, job),
+            TurnAction::Poll(f, _) => unknown_unless(self.is_future(f)),
             TurnAction::Settle(f, _) => unknown_unless(self.is_unsettled(f)),
             TurnAction::End(f) => unknown_unless(self.is_future(f)),
             TurnAction::TellFull(o) | TurnAction::Tell(o) => self.cause_of_use(o),
@@ -108,14 +108,13 @@ impl<C: TurnCore> CellPart<C> {
         }
     }
 
-    // Why a new future that does this is refused.
+    // Why a new future that does this is refused: its cell is unknown, or a future is in its way.
     fn cause_of_begin(&self, o: u64, job: Job) -> Option<Stop>
         ensures { result ≡ borrowed_by (is_cell self.now.hall o) (in_the_way self.now.hall o job) }
     {
-        if is_alone(job) {
-            self.cause_of_whole(o)
-        } else {
-            self.cause_of_use(o)
+        match self.cells.get(o) {
+            Some(entry) => borrowed_if(entry.is_closed_to(job)),
+            None => Some(Stop::Unknown),
         }
     }
 
@@ -131,7 +130,8 @@ impl<C: TurnCore> CellPart<C> {
 
     // Why a use of the whole cell is refused: it is unknown, or it has a future.
     fn cause_of_whole(&self, o: u64) -> Option<Stop>
-        ensures { result ≡ borrowed_by (is_cell self.now.hall o) (futures_of self.now.hall o) }
+        ensures is { result ≡ borrowed_by (is_cell self.now.hall o) (futures_of self.now.hall o) }
+        ensures tells { result ≢ Some Stop.NoMemory }
     {
         match self.cells.get(o) {
             Some(entry) => borrowed_if(entry.has_futures()),
@@ -139,56 +139,31 @@ impl<C: TurnCore> CellPart<C> {
         }
     }
 
-    /// Does what has no cause for refusal. On an error nothing has changed.
-    pub fn play(
-        &mut self,
-        number: u64,
-        action: TurnAction,
-        ready: &mut Ready<u64>,
-    ) -> Result<Answer, NoMemory>
-        requires next { self.old.next ≤ number }
-        requires fits { FitsTurn C.is_once action }
-        requires allowed { cause_in self.old.hall (turn_action action) ≡ None }
-        requires room { registered self.old.hall ≤ ready.old.registered }
-        ensures ok { IfOk result (λ answer. PartYields registered self.old number (act_in self.old.hall number (turn_action action)) answer self.new ready.old ready.new) }
-        ensures no_memory { IsFree (turn_action action) → OnErr result ⊥ }
-        ensures err { OnErr result ((self.new ≡ self.old) × (ready.new ≡ ready.old)) }
-    {
-        match action {
-            TurnAction::Make => self.make(number, C::empty(self.alloc)),
-            TurnAction::Begin(o, job) => self.begin(number, o, job),
-            TurnAction::Settle(f, outcome) => Ok(self.settle(number, f, outcome, ready)),
-            TurnAction::End(f) => Ok(self.end(number, f, ready)),
-            TurnAction::TellFull(o) => Ok(self.tell_full(number, o)),
-            TurnAction::Tell(o) => Ok(self.tell(number, o)),
-            TurnAction::Drop(o) => Ok(self.end_cell(number, o, ready)),
-        }
-    }
-
     // Makes a cell of a new core. On an error nothing has changed.
-    fn make(&mut self, number: u64, core: C) -> Result<Answer, NoMemory>
+    fn make(&mut self, number: u64, core: C) -> Result<Answer, Stop>
         requires next { self.old.next ≤ number }
         requires new { IsNewCell (C.seen_as core) (C.seen_as core).value }
-        ensures ok { IfOk result (λ answer. PartRests registered self.old number (act_in self.old.hall number (Make (C.seen_as core).value)) answer self.new) }
-        ensures err { OnErr result (self.new ≡ self.old) }
+        ensures { CellActsQuietly self.old number (Make (C.seen_as core).value) result self.new }
     {
         let Ok(()) = self.cells.insert(number, CellEntry::new(core)) else {
-            return Err(NoMemory);
+            return Err(Stop::NoMemory);
         };
         self.next = number as u128 + 1;
         Ok(Answer::Made)
     }
 
     // Makes a future that does this. On an error nothing has changed.
-    fn begin(&mut self, number: u64, o: u64, job: Job) -> Result<Answer, NoMemory>
+    fn begin(&mut self, number: u64, o: u64, job: Job) -> Result<Answer, Stop>
         requires next { self.old.next ≤ number }
-        requires there { is_cell self.old.hall o ≡ true }
         requires fits { fits C.is_once job ≡ true }
-        requires free { in_the_way self.old.hall o job ≡ 0 }
-        ensures ok { IfOk result (λ answer. PartRests registered self.old number (act_in self.old.hall number (Begin o job)) answer self.new) }
-        ensures err { OnErr result (self.new ≡ self.old) }
+        ensures { CellActsQuietly self.old number (Begin o job) result self.new }
     {
-        let entry = self.cells.at_mut(o);
+        let Some(entry) = self.cells.get_mut(o) else {
+            return Err(Stop::Unknown);
+        };
+        if entry.is_closed_to(job) {
+            return Err(Stop::Borrowed);
+        }
         let future = FutureEntry {
             cell: o,
             job,
@@ -196,7 +171,7 @@ impl<C: TurnCore> CellPart<C> {
             wait: LatchWait::new(),
         };
         let Ok(()) = self.futures.insert(number, future) else {
-            return Err(NoMemory);
+            return Err(Stop::NoMemory);
         };
         entry.begin(job);
         self.next = number as u128 + 1;
@@ -210,129 +185,136 @@ impl<C: TurnCore> CellPart<C> {
         f: u64,
         outcome: Initialiser,
         ready: &mut Ready<u64>,
-    ) -> Answer
+    ) -> Result<Answer, Stop>
         requires next { self.old.next ≤ number }
-        requires there { is_future self.old.hall f ≡ true }
         requires fits { FitsSettled C.is_once outcome }
         requires room { registered self.old.hall ≤ ready.old.registered }
-        ensures { PartYields registered self.old number (act_in self.old.hall number (Settle f outcome)) result self.new ready.old ready.new }
+        ensures { CellActs self.old number (Settle f outcome) result self.new ready.old ready.new }
     {
-        let future = self.futures.at_mut(f);
-        let o = future.cell;
-        self.cells.at_mut(o).settle(f, future, outcome, ready);
+        let Some(future) = self.futures.get_mut(f) else {
+            return Err(Stop::Unknown);
+        };
+        if !can_settle(future.job) {
+            return Err(Stop::Unknown);
+        }
+        let entry = self.cells.at_mut(future.cell);
+        entry.settle(f, future, outcome, ready);
         self.next = number as u128 + 1;
-        Answer::Done
+        Ok(Answer::Done)
     }
 
     // Ends a future. It takes no memory.
-    fn end(&mut self, number: u64, f: u64, ready: &mut Ready<u64>) -> Answer
+    fn end(&mut self, number: u64, f: u64, ready: &mut Ready<u64>) -> Result<Answer, Stop>
         requires next { self.old.next ≤ number }
-        requires there { is_future self.old.hall f ≡ true }
         requires room { registered self.old.hall ≤ ready.old.registered }
-        ensures { PartYields registered self.old number (act_in self.old.hall number (End f)) result self.new ready.old ready.new }
+        ensures { CellActs self.old number (End f) result self.new ready.old ready.new }
     {
-        let future = self.futures.remove(f);
-        let o = future.cell;
-        self.cells.at_mut(o).end(f, future, ready);
+        let Some(future) = self.futures.take(f) else {
+            return Err(Stop::Unknown);
+        };
+        let entry = self.cells.at_mut(future.cell);
+        entry.end(f, future, ready);
         self.next = number as u128 + 1;
-        Answer::Done
+        Ok(Answer::Done)
     }
 
     // Tells whether a cell is full. It takes no memory.
-    fn tell_full(&mut self, number: u64, o: u64) -> Answer
-        requires next { self.old.next ≤ number }
-        requires there { is_cell self.old.hall o ≡ true }
-        ensures { PartRests registered self.old number (act_in self.old.hall number (TellFull o)) result self.new }
+    fn tell_full(&mut self, number: u64, o: u64) -> Result<Answer, Stop>
+        requires { self.old.next ≤ number }
+        ensures { CellActsQuietly self.old number (TellFull o) result self.new }
     {
-        let value = self.cells.at(o).core().value();
+        let Some(entry) = self.cells.get(o) else {
+            return Err(Stop::Unknown);
+        };
+        if entry.is_alone() {
+            return Err(Stop::Borrowed);
+        }
+        let value = entry.core().value();
         self.next = number as u128 + 1;
-        yes_if_full(value)
+        Ok(yes_if_full(value))
     }
 
     // Tells the value of a cell. It takes no memory.
-    fn tell(&mut self, number: u64, o: u64) -> Answer
-        requires next { self.old.next ≤ number }
-        requires there { is_cell self.old.hall o ≡ true }
-        ensures { PartRests registered self.old number (act_in self.old.hall number (Tell o)) result self.new }
+    fn tell(&mut self, number: u64, o: u64) -> Result<Answer, Stop>
+        requires { self.old.next ≤ number }
+        ensures { CellActsQuietly self.old number (Tell o) result self.new }
     {
-        let value = self.cells.at(o).core().value();
+        let Some(entry) = self.cells.get(o) else {
+            return Err(Stop::Unknown);
+        };
+        if entry.is_alone() {
+            return Err(Stop::Borrowed);
+        }
+        let value = entry.core().value();
         self.next = number as u128 + 1;
-        content(value)
+        Ok(content(value))
     }
 
     // Ends a cell that has no future; who waits until it is full is forgotten. It takes no memory.
-    fn end_cell(&mut self, number: u64, o: u64, ready: &mut Ready<u64>) -> Answer
+    fn end_cell(&mut self, number: u64, o: u64, ready: &mut Ready<u64>) -> Result<Answer, Stop>
         requires next { self.old.next ≤ number }
-        requires there { is_cell self.old.hall o ≡ true }
-        requires alone { futures_of self.old.hall o ≡ 0 }
         requires room { registered self.old.hall ≤ ready.old.registered }
-        ensures { PartYields registered self.old number (act_in self.old.hall number (Drop o)) result self.new ready.old ready.new }
+        ensures { CellActs self.old number (Drop o) result self.new ready.old ready.new }
     {
+        if let Some(stop) = self.cause_of_whole(o) {
+            return Err(stop);
+        }
         let entry = self.cells.remove(o);
         let kept = entry.keeps(ready);
         ready.unregister(kept);
         self.next = number as u128 + 1;
-        Answer::Done
+        Ok(Answer::Done)
     }
 }
 
-impl<C: WaitCore> CellPart<C> {
-    /// Why an action is refused; None where it is not. It takes no memory.
-    pub fn cause_wait(&self, action: WaitAction) -> Option<Stop>
-        ensures { result ≡ cause_in self.now.hall (wait_action action) }
-    {
-        match action {
-            WaitAction::Turn(action) => self.cause(action),
-            WaitAction::Poll(f, _) => unknown_unless(self.is_future(f)),
-        }
-    }
-
-    /// Does what has no cause for refusal. On an error nothing has changed.
-    pub fn play_wait(
+impl<C: PolledCore> CellPart<C> {
+    /// Does an action, or finds why it is refused. On an error nothing has changed. Memory is taken for what is made and by a
+    /// poll.
+    pub fn act(
         &mut self,
         number: u64,
-        action: WaitAction,
+        action: TurnAction,
         ready: &mut Ready<u64>,
-    ) -> Result<Answer, NoMemory>
+    ) -> Result<Answer, Stop>
         requires next { self.old.next ≤ number }
-        requires fits { FitsWait action }
-        requires allowed { cause_in self.old.hall (wait_action action) ≡ None }
+        requires fits { FitsTurn C.TurnCore.is_once action }
         requires room { registered self.old.hall ≤ ready.old.registered }
-        ensures ok { IfOk result (λ answer. PartYields registered self.old number (act_in self.old.hall number (wait_action action)) answer self.new ready.old ready.new) }
-        ensures no_memory { IsFree (wait_action action) → OnErr result ⊥ }
-        ensures err { OnErr result ((self.new ≡ self.old) × (ready.new ≡ ready.old)) }
+        ensures { CellActs self.old number (turn_action action) result self.new ready.old ready.new }
     {
         match action {
-            WaitAction::Turn(action) => self.play(number, action, ready),
-            WaitAction::Poll(f, waker) => self.poll_wait(number, f, waker, ready),
+            TurnAction::Make => self.make(number, C::empty(self.alloc)),
+            TurnAction::Begin(o, job) => self.begin(number, o, job),
+            TurnAction::Poll(f, waker) => self.poll(number, f, waker, ready),
+            TurnAction::Settle(f, outcome) => self.settle(number, f, outcome, ready),
+            TurnAction::End(f) => self.end(number, f, ready),
+            TurnAction::TellFull(o) => self.tell_full(number, o),
+            TurnAction::Tell(o) => self.tell(number, o),
+            TurnAction::Drop(o) => self.end_cell(number, o, ready),
         }
     }
 
     // Polls a future. On an error nothing has changed.
-    fn poll_wait(
+    fn poll(
         &mut self,
         number: u64,
         f: u64,
         waker: u64,
         ready: &mut Ready<u64>,
-    ) -> Result<Answer, NoMemory>
+    ) -> Result<Answer, Stop>
         requires next { self.old.next ≤ number }
-        requires there { is_future self.old.hall f ≡ true }
         requires room { registered self.old.hall ≤ ready.old.registered }
-        ensures ok { IfOk result (λ answer. PartYields registered self.old number (act_in self.old.hall number (Poll f waker)) answer self.new ready.old ready.new) }
-        ensures err { OnErr result ((self.new ≡ self.old) × (ready.new ≡ ready.old)) }
+        ensures { CellActs self.old number (Poll f waker) result self.new ready.old ready.new }
     {
-        let future = self.futures.at_mut(f);
-        let o = future.cell;
-        let entry = self.cells.at_mut(o);
-        match entry.poll_wait_or_call(f, future, waker, ready) {
-            Err(_) => Err(NoMemory),
-            Ok(told) => {
-                self.futures.remove_if(f, told.over);
-                self.next = number as u128 + 1;
-                Ok(told.answer)
-            }
-        }
+        let Some(future) = self.futures.get_mut(f) else {
+            return Err(Stop::Unknown);
+        };
+        let entry = self.cells.at_mut(future.cell);
+        let Ok(told) = C::poll_at(entry, f, future, waker, ready) else {
+            return Err(Stop::NoMemory);
+        };
+        self.futures.remove_if(f, told.over);
+        self.next = number as u128 + 1;
+        Ok(told.answer)
     }
 }
 
@@ -342,116 +324,94 @@ impl<C: WholeCore> CellPart<C> {
         ensures { result ≡ cause_in self.now.hall (whole_action action) }
     {
         match action {
-            WholeAction::Turn(action) => self.cause(action),
-            WholeAction::Poll(f, _) => unknown_unless(self.is_future(f)),
             WholeAction::MakeFull(_) => None,
             WholeAction::Peek(o) | WholeAction::Put(o, _) => self.cause_of_whole(o),
             WholeAction::Take(o) | WholeAction::TakeOut(o) => self.cause_of_whole(o),
         }
     }
 
-    /// Does what has no cause for refusal. On an error nothing has changed.
-    pub fn play_whole(
+    /// Does an action, or finds why it is refused. On an error nothing has changed. Memory is taken for what is made.
+    pub fn act_whole(
         &mut self,
         number: u64,
         action: WholeAction,
         ready: &mut Ready<u64>,
-    ) -> Result<Answer, NoMemory>
+    ) -> Result<Answer, Stop>
         requires next { self.old.next ≤ number }
-        requires fits { FitsWhole action }
-        requires allowed { cause_in self.old.hall (whole_action action) ≡ None }
         requires room { registered self.old.hall ≤ ready.old.registered }
-        ensures ok { IfOk result (λ answer. PartYields registered self.old number (act_in self.old.hall number (whole_action action)) answer self.new ready.old ready.new) }
-        ensures no_memory { IsFree (whole_action action) → OnErr result ⊥ }
-        ensures err { OnErr result ((self.new ≡ self.old) × (ready.new ≡ ready.old)) }
+        ensures { CellActs self.old number (whole_action action) result self.new ready.old ready.new }
     {
         match action {
-            WholeAction::Turn(action) => self.play(number, action, ready),
-            WholeAction::Poll(f, waker) => self.poll_whole(number, f, waker, ready),
             WholeAction::MakeFull(value) => self.make(number, C::full(self.alloc, value)),
-            WholeAction::Peek(o) => Ok(self.peek(number, o)),
-            WholeAction::Put(o, value) => Ok(self.put(number, o, value)),
-            WholeAction::Take(o) => Ok(self.take(number, o)),
-            WholeAction::TakeOut(o) => Ok(self.take_out(number, o, ready)),
-        }
-    }
-
-    // Polls a future. On an error nothing has changed.
-    fn poll_whole(
-        &mut self,
-        number: u64,
-        f: u64,
-        waker: u64,
-        ready: &mut Ready<u64>,
-    ) -> Result<Answer, NoMemory>
-        requires next { self.old.next ≤ number }
-        requires there { is_future self.old.hall f ≡ true }
-        requires room { registered self.old.hall ≤ ready.old.registered }
-        ensures ok { IfOk result (λ answer. PartYields registered self.old number (act_in self.old.hall number (Poll f waker)) answer self.new ready.old ready.new) }
-        ensures err { OnErr result ((self.new ≡ self.old) × (ready.new ≡ ready.old)) }
-    {
-        let future = self.futures.at_mut(f);
-        let o = future.cell;
-        let entry = self.cells.at_mut(o);
-        match entry.poll_alone_or_call(f, future, waker, ready) {
-            Err(_) => Err(NoMemory),
-            Ok(told) => {
-                self.futures.remove_if(f, told.over);
-                self.next = number as u128 + 1;
-                Ok(told.answer)
-            }
+            WholeAction::Peek(o) => self.peek(number, o),
+            WholeAction::Put(o, value) => self.put(number, o, value),
+            WholeAction::Take(o) => self.take(number, o),
+            WholeAction::TakeOut(o) => self.take_out(number, o, ready),
         }
     }
 
     // Tells the value of a cell that has no future. It takes no memory.
-    fn peek(&mut self, number: u64, o: u64) -> Answer
-        requires next { self.old.next ≤ number }
-        requires there { is_cell self.old.hall o ≡ true }
-        requires alone { futures_of self.old.hall o ≡ 0 }
-        ensures { PartRests registered self.old number (act_in self.old.hall number (Peek o)) result self.new }
+    fn peek(&mut self, number: u64, o: u64) -> Result<Answer, Stop>
+        requires { self.old.next ≤ number }
+        ensures { CellActsQuietly self.old number (Peek o) result self.new }
     {
-        let value = self.cells.at_mut(o).peek();
+        let Some(entry) = self.cells.get_mut(o) else {
+            return Err(Stop::Unknown);
+        };
+        if entry.has_futures() {
+            return Err(Stop::Borrowed);
+        }
+        let value = entry.peek();
         self.next = number as u128 + 1;
-        content(value)
+        Ok(content(value))
     }
 
     // Writes the value of a cell that has no future, where there is one. It takes no memory.
-    fn put(&mut self, number: u64, o: u64, value: u64) -> Answer
-        requires next { self.old.next ≤ number }
-        requires there { is_cell self.old.hall o ≡ true }
-        requires alone { futures_of self.old.hall o ≡ 0 }
-        ensures { PartRests registered self.old number (act_in self.old.hall number (Put o value)) result self.new }
+    fn put(&mut self, number: u64, o: u64, value: u64) -> Result<Answer, Stop>
+        requires { self.old.next ≤ number }
+        ensures { CellActsQuietly self.old number (Put o value) result self.new }
     {
-        let full = self.cells.at_mut(o).put(value);
+        let Some(entry) = self.cells.get_mut(o) else {
+            return Err(Stop::Unknown);
+        };
+        if entry.has_futures() {
+            return Err(Stop::Borrowed);
+        }
+        let full = entry.put(value);
         self.next = number as u128 + 1;
-        done_if(full)
+        Ok(done_if(full))
     }
 
     // Takes the value out of a cell that has no future. It takes no memory.
-    fn take(&mut self, number: u64, o: u64) -> Answer
-        requires next { self.old.next ≤ number }
-        requires there { is_cell self.old.hall o ≡ true }
-        requires alone { futures_of self.old.hall o ≡ 0 }
-        ensures { PartRests registered self.old number (act_in self.old.hall number (Take o)) result self.new }
+    fn take(&mut self, number: u64, o: u64) -> Result<Answer, Stop>
+        requires { self.old.next ≤ number }
+        ensures { CellActsQuietly self.old number (Take o) result self.new }
     {
-        let value = self.cells.at_mut(o).take();
+        let Some(entry) = self.cells.get_mut(o) else {
+            return Err(Stop::Unknown);
+        };
+        if entry.has_futures() {
+            return Err(Stop::Borrowed);
+        }
+        let value = entry.take();
         self.next = number as u128 + 1;
-        content(value)
+        Ok(content(value))
     }
 
     // Ends a cell that has no future, with its value. It takes no memory.
-    fn take_out(&mut self, number: u64, o: u64, ready: &mut Ready<u64>) -> Answer
+    fn take_out(&mut self, number: u64, o: u64, ready: &mut Ready<u64>) -> Result<Answer, Stop>
         requires next { self.old.next ≤ number }
-        requires there { is_cell self.old.hall o ≡ true }
-        requires alone { futures_of self.old.hall o ≡ 0 }
         requires room { registered self.old.hall ≤ ready.old.registered }
-        ensures { PartYields registered self.old number (act_in self.old.hall number (TakeOut o)) result self.new ready.old ready.new }
+        ensures { CellActs self.old number (TakeOut o) result self.new ready.old ready.new }
     {
+        if let Some(stop) = self.cause_of_whole(o) {
+            return Err(stop);
+        }
         let entry = self.cells.remove(o);
         let kept = entry.keeps(ready);
         ready.unregister(kept);
         let value = entry.into_value();
         self.next = number as u128 + 1;
-        content(value)
+        Ok(content(value))
     }
 }

@@ -357,13 +357,16 @@ impl<C: TableCore> TableEntry<C> {
         Ok(told)
     }
 
-    // The round keeps the waker of the initialiser of `f` no more.
-    fn stop(&mut self, f: u64, n: u64, round: Round)
+    // The round keeps the waker of the initialiser of `f` no more, which is told, if it kept it.
+    fn stop(&mut self, f: u64, n: u64) -> Option<u64>
         requires { IsSome (get self.old.rounds n) }
-        ensures { self.new ≡ with_running self.old n round (cond (runs round.running f) None round.running) }
+        ensures waker { (r : Round) → get self.old.rounds n ≡ Some r → result ≡ stopped_waker r.running f }
+        ensures is { (r : Round) → get self.old.rounds n ≡ Some r → self.new ≡ with_running self.old n r (cond (runs r.running f) None r.running) }
     {
-        let running = stopped(round.running, f);
-        *self.rounds.at_mut(n) = Round { running, ..round };
+        let round = self.rounds.at_mut(n);
+        let kept = round.running;
+        round.running = stopped(kept, f);
+        waker_of(kept, f)
     }
 
     /// Settles the initialiser of a future, which is named `f`. The waker that it keeps is ready.
@@ -385,9 +388,7 @@ impl<C: TableCore> TableEntry<C> {
         let Some(n) = future.round else {
             return;
         };
-        let round = *self.rounds.at(n);
-        self.stop(f, n, round);
-        if let Some(waker) = waker_of(round.running, f) {
+        if let Some(waker) = self.stop(f, n) {
             ready.wake(waker);
         }
     }
@@ -423,9 +424,7 @@ impl<C: TableCore> TableEntry<C> {
             × (self.new.rounds ≡ self.old.rounds) × (self.new.futures ≡ self.old.futures) }
     {
         self.core.discard(key);
-        if self.current.has(key) {
-            let _ = self.current.remove(key);
-        }
+        let _ = self.current.take(key);
     }
 }
 

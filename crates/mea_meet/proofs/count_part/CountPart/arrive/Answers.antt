@@ -1,21 +1,24 @@
-use Rattle.mea_meet.proofs.CountSites.{site, holder_there, holders_point, its, its_room}
-use Rattle.mea_meet.proofs.CountCalls.{arrived_by}
+use Rattle.std.proofs.Common.{refl, sym, ap, ◌∙◌}
+use Rattle.std.specs.Option.{option_copied}
+use Rattle.mea_meet.proofs.CountSites.{site, holders_point, its, its_room}
+use Rattle.mea_meet.proofs.CountCalls.{holder_unknown, arrived_by}
+use Rattle.mea_meet.proofs.Playing.{unknown}
 use Rattle.mea_meet.proofs.count_part.CountPart.arrive.Goals as goal
 
-pub at-requires : goal.at-requires
-at-requires g c = holder_there (site c.self.inside.points c.self.inside.senders c.self.inside.holders c.self.inside.waits c.self.inside.next c.self.view_is c.self.invariant c.requires.next) c.args.k c.requires.there
+pub returns-in_default : goal.returns-in_default
+returns-in_default g c = (unknown _ _ (holder_unknown (site c.self.inside.points c.self.inside.senders c.self.inside.holders c.self.inside.waits c.self.inside.next c.self.view_is c.self.invariant c.requires.next) c.args.k (sym c.get.ensures ∙ ap option_copied c.in_default.is)), refl, refl)
 
 pub at_mut-requires : goal.at_mut-requires
-at_mut-requires g c = holders_point (site c.self.inside.points c.self.inside.senders c.self.inside.holders c.self.inside.waits c.self.inside.next c.self.view_is c.self.invariant c.requires.next) c.args.k c.at.result.now c.at.ensures
+at_mut-requires g c = holders_point (site c.self.inside.points c.self.inside.senders c.self.inside.holders c.self.inside.waits c.self.inside.next c.self.view_is c.self.invariant c.requires.next) c.args.k c.in-Some.holder.now (sym c.get.ensures ∙ ap option_copied c.in-Some.is)
 
 pub arrive-requires-clause-quiet : goal.arrive-requires-clause-quiet
-arrive-requires-clause-quiet g c = (its (site c.self.inside.points c.self.inside.senders c.self.inside.holders c.self.inside.waits c.self.inside.next c.self.view_is c.self.invariant c.requires.next) c.at.result.now.point c.at_mut.result.now c.at_mut.ensures.value).quiet
+arrive-requires-clause-quiet g c = (its (site c.self.inside.points c.self.inside.senders c.self.inside.holders c.self.inside.waits c.self.inside.next c.self.view_is c.self.invariant c.requires.next) c.in-Some.holder.now.point c.at_mut.result.now c.at_mut.ensures.value).quiet
 
 pub arrive-requires-clause-room : goal.arrive-requires-clause-room
-arrive-requires-clause-room g c = its_room (site c.self.inside.points c.self.inside.senders c.self.inside.holders c.self.inside.waits c.self.inside.next c.self.view_is c.self.invariant c.requires.next) c.at.result.now.point c.at_mut.result.now c.at_mut.ensures.value c.args.ready.now c.requires.room
+arrive-requires-clause-room g c = its_room (site c.self.inside.points c.self.inside.senders c.self.inside.holders c.self.inside.waits c.self.inside.next c.self.view_is c.self.invariant c.requires.next) c.in-Some.holder.now.point c.at_mut.result.now c.at_mut.ensures.value c.args.ready.now c.requires.room
 
 pub invariant_of-self : goal.invariant_of-self
-invariant_of-self g c = (arrived_by (site c.self.inside.points c.self.inside.senders c.self.inside.holders c.self.inside.waits c.self.inside.next c.self.view_is c.self.invariant c.requires.next) c.args.k c.at.result.now c.at_mut.result.now c.requires.there c.at.ensures c.at_mut.ensures.value c.args.n c.arrive.new.self c.args.ready.now c.arrive.new.ready c.arrive.ensures).0
+invariant_of-self g c = (arrived_by (site c.self.inside.points c.self.inside.senders c.self.inside.holders c.self.inside.waits c.self.inside.next c.self.view_is c.self.invariant c.requires.next) c.args.k c.in-Some.holder.now c.at_mut.result.now (sym c.get.ensures ∙ ap option_copied c.in-Some.is) c.at_mut.ensures.value c.args.n c.arrive.new.self c.args.ready.now c.arrive.new.ready c.arrive.ensures).0
 
 pub returns : goal.returns
-returns g c = (arrived_by (site c.self.inside.points c.self.inside.senders c.self.inside.holders c.self.inside.waits c.self.inside.next c.self.view_is c.self.invariant c.requires.next) c.args.k c.at.result.now c.at_mut.result.now c.requires.there c.at.ensures c.at_mut.ensures.value c.args.n c.arrive.new.self c.args.ready.now c.arrive.new.ready c.arrive.ensures).1
+returns g c = (arrived_by (site c.self.inside.points c.self.inside.senders c.self.inside.holders c.self.inside.waits c.self.inside.next c.self.view_is c.self.invariant c.requires.next) c.args.k c.in-Some.holder.now c.at_mut.result.now (sym c.get.ensures ∙ ap option_copied c.in-Some.is) c.at_mut.ensures.value c.args.n c.arrive.new.self c.args.ready.now c.arrive.new.ready c.arrive.ensures).1

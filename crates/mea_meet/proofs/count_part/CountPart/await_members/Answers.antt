@@ -1,17 +1,22 @@
-use Rattle.std.proofs.Common.{refl}
-use Rattle.mea_meet.specs.declared.count_wait.CountWait.TheVariants as waits
-use Rattle.mea_meet.proofs.CountSites.{site, sender_there}
-use Rattle.mea_meet.proofs.CountCalls.{awaited_by}
+use Rattle.std.proofs.Common.{refl, sym, ap, ◌∙◌}
+use Rattle.std.specs.Option.{option_copied}
+use Rattle.mea_base.proofs.Maps.{is_there}
+use Rattle.mea_meet.proofs.CountSites.{site}
+use Rattle.mea_meet.proofs.CountCalls.{sender_unknown, sender_known, untold, awaited}
+use Rattle.mea_meet.proofs.Playing.{unknown, lacking}
 use Rattle.mea_meet.proofs.count_part.CountPart.await_members.Goals as goal
 
-pub at-o-requires : goal.at-o-requires
-at-o-requires g c = sender_there (site c.self.inside.points c.self.inside.senders c.self.inside.holders c.self.inside.waits c.self.inside.next c.self.view_is c.self.invariant c.requires.next) c.args.k c.requires.there
+pub returns-in_default : goal.returns-in_default
+returns-in_default g c = (unknown _ _ (sender_unknown (site c.self.inside.points c.self.inside.senders c.self.inside.holders c.self.inside.waits c.self.inside.next c.self.view_is c.self.invariant c.requires) c.args.s (sym c.get.ensures ∙ ap option_copied c.in_default.is)), refl)
+
+pub returns-in_default-insert : goal.returns-in_default-insert
+returns-in_default-insert g c = (lacking _ _ (sender_known (site c.self.inside.points c.self.inside.senders c.self.inside.holders c.self.inside.waits c.self.inside.next c.self.view_is c.self.invariant c.requires) c.args.s c.in-Some.o.now (sym c.get.ensures ∙ ap option_copied c.in-Some.is)) (λ none. none), (untold (site c.self.inside.points c.self.inside.senders c.self.inside.holders c.self.inside.waits c.self.inside.next c.self.view_is c.self.invariant c.requires) _ _ _ _ refl refl refl c.in_default-insert.ensures.err).1)
 
 pub remove-requires : goal.remove-requires
-remove-requires g c = sender_there (site c.self.inside.points c.self.inside.senders c.self.inside.holders c.self.inside.waits c.self.inside.next c.self.view_is c.self.invariant c.requires.next) c.args.k c.requires.there
+remove-requires g c = is_there _ _ (sym c.get.ensures ∙ ap option_copied c.in-Some.is)
 
 pub invariant_of-self-2 : goal.invariant_of-self-2
-invariant_of-self-2 g c = (awaited_by (site c.self.inside.points c.self.inside.senders c.self.inside.holders c.self.inside.waits c.self.inside.next c.self.view_is c.self.invariant c.requires.next) c.args.k c.at-o.result.now c.requires.there c.at-o.ensures (record { point = c.at-o.result.now; wait = waits.Members c.new.result }) refl c.new.ensures refl c.insert.new.self c.in-Ok.ensures.ok c.remove.new.self c.remove.ensures.rest).0
+invariant_of-self-2 g c = (awaited (site c.self.inside.points c.self.inside.senders c.self.inside.holders c.self.inside.waits c.self.inside.next c.self.view_is c.self.invariant c.requires) c.args.s c.in-Some.o.now (sym c.get.ensures ∙ ap option_copied c.in-Some.is) c.on_members.result c.on_members.ensures.point c.on_members.ensures.new c.on_members.ensures.awaits c.insert.new.self c.in-Ok.ensures.ok c.remove.new.self c.remove.ensures.rest).0
 
-pub returns-clause-ok : goal.returns-clause-ok
-returns-clause-ok g c = (awaited_by (site c.self.inside.points c.self.inside.senders c.self.inside.holders c.self.inside.waits c.self.inside.next c.self.view_is c.self.invariant c.requires.next) c.args.k c.at-o.result.now c.requires.there c.at-o.ensures (record { point = c.at-o.result.now; wait = waits.Members c.new.result }) refl c.new.ensures refl c.insert.new.self c.in-Ok.ensures.ok c.remove.new.self c.remove.ensures.rest).1
+pub returns : goal.returns
+returns g c = (awaited (site c.self.inside.points c.self.inside.senders c.self.inside.holders c.self.inside.waits c.self.inside.next c.self.view_is c.self.invariant c.requires) c.args.s c.in-Some.o.now (sym c.get.ensures ∙ ap option_copied c.in-Some.is) c.on_members.result c.on_members.ensures.point c.on_members.ensures.new c.on_members.ensures.awaits c.insert.new.self c.in-Ok.ensures.ok c.remove.new.self c.remove.ensures.rest).1

@@ -1,20 +1,24 @@
-use Rattle.std.proofs.Common.{refl}
-use Rattle.mea_meet.specs.declared.count_wait.CountWait.TheVariants as waits
-use Rattle.mea_meet.proofs.CountSites.{site, wait_there, waits_point, its_few}
-use Rattle.mea_meet.proofs.CountCalls.{copied_wait}
+use Rattle.std.proofs.Common.{refl, sym, ap, ◌∙◌}
+use Rattle.std.specs.Option.{option_copied}
+use Rattle.mea_meet.proofs.CountSites.{site, waits_point, its_few}
+use Rattle.mea_meet.proofs.CountCalls.{wait_unknown, wait_known, copied_wait, untold}
+use Rattle.mea_meet.proofs.Playing.{unknown, lacking}
 use Rattle.mea_meet.proofs.count_part.CountPart.copy.Goals as goal
 
-pub at-requires : goal.at-requires
-at-requires g c = wait_there (site c.self.inside.points c.self.inside.senders c.self.inside.holders c.self.inside.waits c.self.inside.next c.self.view_is c.self.invariant c.requires.next) c.args.f c.requires.there
+pub returns-in_default : goal.returns-in_default
+returns-in_default g c = (unknown _ _ (wait_unknown (site c.self.inside.points c.self.inside.senders c.self.inside.holders c.self.inside.waits c.self.inside.next c.self.view_is c.self.invariant c.requires) c.args.f (sym c.get.ensures ∙ ap option_copied c.in_default.is)), refl)
+
+pub returns-in_default-insert : goal.returns-in_default-insert
+returns-in_default-insert g c = (lacking _ _ (wait_known (site c.self.inside.points c.self.inside.senders c.self.inside.holders c.self.inside.waits c.self.inside.next c.self.view_is c.self.invariant c.requires) c.args.f c.in-Some.other.now (sym c.get.ensures ∙ ap option_copied c.in-Some.is)) (λ none. none), (untold (site c.self.inside.points c.self.inside.senders c.self.inside.holders c.self.inside.waits c.self.inside.next c.self.view_is c.self.invariant c.requires) _ _ _ _ refl refl refl c.in_default-insert.ensures.err).1)
 
 pub at_mut-requires : goal.at_mut-requires
-at_mut-requires g c = waits_point (site c.self.inside.points c.self.inside.senders c.self.inside.holders c.self.inside.waits c.self.inside.next c.self.view_is c.self.invariant c.requires.next) c.args.f c.at.result.now c.at.ensures
+at_mut-requires g c = waits_point (site c.self.inside.points c.self.inside.senders c.self.inside.holders c.self.inside.waits c.self.inside.next c.self.view_is c.self.invariant c.requires) c.args.f c.in-Some.other.now (sym c.get.ensures ∙ ap option_copied c.in-Some.is)
 
 pub begin-requires : goal.begin-requires
-begin-requires g c = its_few (site c.self.inside.points c.self.inside.senders c.self.inside.holders c.self.inside.waits c.self.inside.next c.self.view_is c.self.invariant c.requires.next) c.at.result.now.point c.at_mut.result.now c.at_mut.ensures.value c.ranges.number.fits
+begin-requires g c = its_few (site c.self.inside.points c.self.inside.senders c.self.inside.holders c.self.inside.waits c.self.inside.next c.self.view_is c.self.invariant c.requires) c.in-Some.other.now.point c.at_mut.result.now c.at_mut.ensures.value c.ranges.number.fits
 
 pub invariant_of-self-2 : goal.invariant_of-self-2
-invariant_of-self-2 g c = (copied_wait (site c.self.inside.points c.self.inside.senders c.self.inside.holders c.self.inside.waits c.self.inside.next c.self.view_is c.self.invariant c.requires.next) c.args.f c.at.result.now c.at_mut.result.now c.requires.there c.at.ensures c.at_mut.ensures.value (record { point = c.at.result.now.point; wait = waits.Members c.new.result }) refl c.new.ensures refl c.begin.new.self c.begin.ensures c.insert.new.self c.in-Ok.ensures.ok).0
+invariant_of-self-2 g c = (copied_wait (site c.self.inside.points c.self.inside.senders c.self.inside.holders c.self.inside.waits c.self.inside.next c.self.view_is c.self.invariant c.requires) c.args.f c.in-Some.other.now c.at_mut.result.now (sym c.get.ensures ∙ ap option_copied c.in-Some.is) c.at_mut.ensures.value c.on_members.result c.on_members.ensures.point c.on_members.ensures.new c.on_members.ensures.awaits c.begin.new.self c.begin.ensures c.insert.new.self c.in-Ok.ensures.ok).0
 
-pub returns-clause-ok : goal.returns-clause-ok
-returns-clause-ok g c = (copied_wait (site c.self.inside.points c.self.inside.senders c.self.inside.holders c.self.inside.waits c.self.inside.next c.self.view_is c.self.invariant c.requires.next) c.args.f c.at.result.now c.at_mut.result.now c.requires.there c.at.ensures c.at_mut.ensures.value (record { point = c.at.result.now.point; wait = waits.Members c.new.result }) refl c.new.ensures refl c.begin.new.self c.begin.ensures c.insert.new.self c.in-Ok.ensures.ok).1
+pub returns : goal.returns
+returns g c = (copied_wait (site c.self.inside.points c.self.inside.senders c.self.inside.holders c.self.inside.waits c.self.inside.next c.self.view_is c.self.invariant c.requires) c.args.f c.in-Some.other.now c.at_mut.result.now (sym c.get.ensures ∙ ap option_copied c.in-Some.is) c.at_mut.ensures.value c.on_members.result c.on_members.ensures.point c.on_members.ensures.new c.on_members.ensures.awaits c.begin.new.self c.begin.ensures c.insert.new.self c.in-Ok.ensures.ok).1

@@ -1,18 +1,24 @@
-use Rattle.mea_meet.proofs.CountSites.{site, sender_there, senders_point, its_few}
-use Rattle.mea_meet.proofs.CountCalls.{copied_by}
+use Rattle.std.proofs.Common.{refl, sym, ap, ◌∙◌}
+use Rattle.std.specs.Option.{option_copied}
+use Rattle.mea_meet.proofs.CountSites.{site, senders_point, its_few}
+use Rattle.mea_meet.proofs.CountCalls.{sender_unknown, sender_known, untold, copied}
+use Rattle.mea_meet.proofs.Playing.{unknown, lacking}
 use Rattle.mea_meet.proofs.count_part.CountPart.copy_sender.Goals as goal
 
-pub at-o-requires : goal.at-o-requires
-at-o-requires g c = sender_there (site c.self.inside.points c.self.inside.senders c.self.inside.holders c.self.inside.waits c.self.inside.next c.self.view_is c.self.invariant c.requires.next) c.args.k c.requires.there
+pub returns-in_default : goal.returns-in_default
+returns-in_default g c = (unknown _ _ (sender_unknown (site c.self.inside.points c.self.inside.senders c.self.inside.holders c.self.inside.waits c.self.inside.next c.self.view_is c.self.invariant c.requires) c.args.s (sym c.get.ensures ∙ ap option_copied c.in_default.is)), refl)
+
+pub returns-in_default-insert : goal.returns-in_default-insert
+returns-in_default-insert g c = (lacking _ _ (sender_known (site c.self.inside.points c.self.inside.senders c.self.inside.holders c.self.inside.waits c.self.inside.next c.self.view_is c.self.invariant c.requires) c.args.s c.in-Some.o.now (sym c.get.ensures ∙ ap option_copied c.in-Some.is)) (λ none. none), (untold (site c.self.inside.points c.self.inside.senders c.self.inside.holders c.self.inside.waits c.self.inside.next c.self.view_is c.self.invariant c.requires) _ _ _ _ refl c.in_default-insert.ensures.err refl refl).1)
 
 pub at_mut-requires : goal.at_mut-requires
-at_mut-requires g c = senders_point (site c.self.inside.points c.self.inside.senders c.self.inside.holders c.self.inside.waits c.self.inside.next c.self.view_is c.self.invariant c.requires.next) c.args.k c.at-o.result.now c.at-o.ensures
+at_mut-requires g c = senders_point (site c.self.inside.points c.self.inside.senders c.self.inside.holders c.self.inside.waits c.self.inside.next c.self.view_is c.self.invariant c.requires) c.args.s c.in-Some.o.now (sym c.get.ensures ∙ ap option_copied c.in-Some.is)
 
 pub begin-requires : goal.begin-requires
-begin-requires g c = its_few (site c.self.inside.points c.self.inside.senders c.self.inside.holders c.self.inside.waits c.self.inside.next c.self.view_is c.self.invariant c.requires.next) c.at-o.result.now c.at_mut.result.now c.at_mut.ensures.value c.ranges.number.fits
+begin-requires g c = its_few (site c.self.inside.points c.self.inside.senders c.self.inside.holders c.self.inside.waits c.self.inside.next c.self.view_is c.self.invariant c.requires) c.in-Some.o.now c.at_mut.result.now c.at_mut.ensures.value c.ranges.number.fits
 
 pub invariant_of-self-2 : goal.invariant_of-self-2
-invariant_of-self-2 g c = (copied_by (site c.self.inside.points c.self.inside.senders c.self.inside.holders c.self.inside.waits c.self.inside.next c.self.view_is c.self.invariant c.requires.next) c.args.k c.at-o.result.now c.at_mut.result.now c.requires.there c.at-o.ensures c.at_mut.ensures.value c.begin.new.self c.begin.ensures c.insert.new.self c.in-Ok.ensures.ok).0
+invariant_of-self-2 g c = (copied (site c.self.inside.points c.self.inside.senders c.self.inside.holders c.self.inside.waits c.self.inside.next c.self.view_is c.self.invariant c.requires) c.in-Some.o.now c.at_mut.result.now c.at_mut.ensures.value c.args.s (sym c.get.ensures ∙ ap option_copied c.in-Some.is) c.begin.new.self c.begin.ensures c.insert.new.self c.in-Ok.ensures.ok).0
 
-pub returns-clause-ok : goal.returns-clause-ok
-returns-clause-ok g c = (copied_by (site c.self.inside.points c.self.inside.senders c.self.inside.holders c.self.inside.waits c.self.inside.next c.self.view_is c.self.invariant c.requires.next) c.args.k c.at-o.result.now c.at_mut.result.now c.requires.there c.at-o.ensures c.at_mut.ensures.value c.begin.new.self c.begin.ensures c.insert.new.self c.in-Ok.ensures.ok).1
+pub returns : goal.returns
+returns g c = (copied (site c.self.inside.points c.self.inside.senders c.self.inside.holders c.self.inside.waits c.self.inside.next c.self.view_is c.self.invariant c.requires) c.in-Some.o.now c.at_mut.result.now c.at_mut.ensures.value c.args.s (sym c.get.ensures ∙ ap option_copied c.in-Some.is) c.begin.new.self c.begin.ensures c.insert.new.self c.in-Ok.ensures.ok).1

@@ -1,33 +1,12 @@
-use Rattle.mea_meet.proofs.CountSites.{site, holder_there, holders_point, its, its_room, over_there}
-use Rattle.mea_meet.proofs.CountCalls.{holder_left, counted_lives, some_left, room_left}
+use Rattle.std.proofs.Common.{sym, ◌∙◌}
+use Rattle.mea_meet.proofs.Playing.{borrowed_none, borrowed_by_none}
 use Rattle.mea_meet.proofs.count_part.CountPart.end_holder.Goals as goal
 
-pub remove-holder-requires : goal.remove-holder-requires
-remove-holder-requires g c = holder_there (site c.self.inside.points c.self.inside.senders c.self.inside.holders c.self.inside.waits c.self.inside.next c.self.view_is c.self.invariant c.requires.next) c.args.k c.requires.there
+pub leave-requires-clause-there : goal.leave-requires-clause-there
+leave-requires-clause-there g c = (borrowed_none _ _ (sym c.cause_of_end.ensures.is ∙ c.in_default.is)).0
 
-pub at_mut-entry-requires : goal.at_mut-entry-requires
-at_mut-entry-requires g c = holders_point (site c.self.inside.points c.self.inside.senders c.self.inside.holders c.self.inside.waits c.self.inside.next c.self.view_is c.self.invariant c.requires.next) c.args.k c.remove-holder.result c.remove-holder.ensures.value
-
-pub part-requires-clause-lives : goal.part-requires-clause-lives
-part-requires-clause-lives g c = counted_lives (site c.self.inside.points c.self.inside.senders c.self.inside.holders c.self.inside.waits c.self.inside.next c.self.view_is c.self.invariant c.requires.next) c.args.k c.remove-holder.result c.at_mut-entry.result.now c.remove-holder.ensures.value c.at_mut-entry.ensures.value
-
-pub part-requires-clause-quiet : goal.part-requires-clause-quiet
-part-requires-clause-quiet g c = (its (site c.self.inside.points c.self.inside.senders c.self.inside.holders c.self.inside.waits c.self.inside.next c.self.view_is c.self.invariant c.requires.next) c.remove-holder.result.point c.at_mut-entry.result.now c.at_mut-entry.ensures.value).quiet
-
-pub part-requires-clause-room : goal.part-requires-clause-room
-part-requires-clause-room g c = its_room (site c.self.inside.points c.self.inside.senders c.self.inside.holders c.self.inside.waits c.self.inside.next c.self.view_is c.self.invariant c.requires.next) c.remove-holder.result.point c.at_mut-entry.result.now c.at_mut-entry.ensures.value c.args.ready.now c.requires.room
-
-pub finish-requires : goal.finish-requires
-finish-requires g c = some_left (site c.self.inside.points c.self.inside.senders c.self.inside.holders c.self.inside.waits c.self.inside.next c.self.view_is c.self.invariant c.requires.next) c.args.k c.remove-holder.result c.at_mut-entry.result.now c.remove-holder.ensures.value c.at_mut-entry.ensures.value c.part.new.self c.args.ready.now c.part.new.ready c.part.ensures
-
-pub release-over-requires : goal.release-over-requires
-release-over-requires g c = room_left (site c.self.inside.points c.self.inside.senders c.self.inside.holders c.self.inside.waits c.self.inside.next c.self.view_is c.self.invariant c.requires.next) c.remove-holder.result.point c.at_mut-entry.result.now c.at_mut-entry.ensures.value c.remove-holder.result.counted c.part.new.self c.args.ready.now c.part.new.ready c.part.ensures c.requires.room c.finish.new.self c.finish.ensures
-
-pub remove_if-requires : goal.remove_if-requires
-remove_if-requires g c = λ over. over_there (site c.self.inside.points c.self.inside.senders c.self.inside.holders c.self.inside.waits c.self.inside.next c.self.view_is c.self.invariant c.requires.next) c.remove-holder.result.point _
-
-pub invariant_of-self : goal.invariant_of-self
-invariant_of-self g c = rw c.remove_if.ensures ((holder_left (site c.self.inside.points c.self.inside.senders c.self.inside.holders c.self.inside.waits c.self.inside.next c.self.view_is c.self.invariant c.requires.next) c.args.k c.remove-holder.result c.at_mut-entry.result.now c.remove-holder.ensures.value c.at_mut-entry.ensures.value c.requires.free c.part.new.self c.args.ready.now c.part.new.ready c.part.ensures c.finish.new.self c.finish.ensures c.release-over.result c.release-over.ensures.over c.release-over.new.ready c.release-over.ensures.wakers c.release-over.ensures.counted _ c.remove-holder.ensures.rest).0)
+pub leave-requires-clause-free : goal.leave-requires-clause-free
+leave-requires-clause-free g c = borrowed_by_none c.args.self.now.hall c.args.k (sym c.cause_of_end.ensures.is ∙ c.in_default.is)
 
 pub returns : goal.returns
-returns g c = rw c.remove_if.ensures ((holder_left (site c.self.inside.points c.self.inside.senders c.self.inside.holders c.self.inside.waits c.self.inside.next c.self.view_is c.self.invariant c.requires.next) c.args.k c.remove-holder.result c.at_mut-entry.result.now c.remove-holder.ensures.value c.at_mut-entry.ensures.value c.requires.free c.part.new.self c.args.ready.now c.part.new.ready c.part.ensures c.finish.new.self c.finish.ensures c.release-over.result c.release-over.ensures.over c.release-over.new.ready c.release-over.ensures.wakers c.release-over.ensures.counted _ c.remove-holder.ensures.rest).1)
+returns g c = (sym c.cause_of_end.ensures.is ∙ c.in_default.is, c.leave.ensures)

@@ -1,27 +1,32 @@
-use Rattle.mea_meet.proofs.CountSites.{site, wait_there, waits_point, over_there}
-use Rattle.mea_meet.proofs.CountCalls.{wait_left, lender_some, wait_some, room_still}
+use Rattle.std.proofs.Common.{refl, sym, ◌∙◌}
+use Rattle.mea_meet.proofs.CountSites.{site, waits_point, its_room, over_there}
+use Rattle.mea_meet.proofs.CountCalls.{wait_unknown, untaken_wait, wait_left, lender_some, wait_some}
+use Rattle.mea_meet.proofs.Playing.{unknown}
 use Rattle.mea_meet.proofs.count_part.CountPart.end_wait.Goals as goal
 
-pub remove-future-requires : goal.remove-future-requires
-remove-future-requires g c = wait_there (site c.self.inside.points c.self.inside.senders c.self.inside.holders c.self.inside.waits c.self.inside.next c.self.view_is c.self.invariant c.requires.next) c.args.f c.requires.there
+pub invariant_of-self : goal.invariant_of-self
+invariant_of-self g c = (untaken_wait (site c.self.inside.points c.self.inside.senders c.self.inside.holders c.self.inside.waits c.self.inside.next c.self.view_is c.self.invariant c.requires.next) c.args.f (sym c.take.ensures.value ∙ c.in_default.is) _ c.take.ensures.rest).0
+
+pub returns-in_default : goal.returns-in_default
+returns-in_default g c = (unknown _ _ (wait_unknown (site c.self.inside.points c.self.inside.senders c.self.inside.holders c.self.inside.waits c.self.inside.next c.self.view_is c.self.invariant c.requires.next) c.args.f (sym c.take.ensures.value ∙ c.in_default.is)), (untaken_wait (site c.self.inside.points c.self.inside.senders c.self.inside.holders c.self.inside.waits c.self.inside.next c.self.view_is c.self.invariant c.requires.next) c.args.f (sym c.take.ensures.value ∙ c.in_default.is) _ c.take.ensures.rest).1, refl)
 
 pub give_back-requires : goal.give_back-requires
-give_back-requires g c = lender_some (site c.self.inside.points c.self.inside.senders c.self.inside.holders c.self.inside.waits c.self.inside.next c.self.view_is c.self.invariant c.requires.next) c.args.f c.remove-future.result c.remove-future.ensures.value c.borrowed.result c.borrowed.ensures
+give_back-requires g c = lender_some (site c.self.inside.points c.self.inside.senders c.self.inside.holders c.self.inside.waits c.self.inside.next c.self.view_is c.self.invariant c.requires.next) c.args.f c.in-Some.future (sym c.take.ensures.value ∙ c.in-Some.is) c.borrowed.result c.borrowed.ensures
 
-pub at_mut-entry-requires : goal.at_mut-entry-requires
-at_mut-entry-requires g c = waits_point (site c.self.inside.points c.self.inside.senders c.self.inside.holders c.self.inside.waits c.self.inside.next c.self.view_is c.self.invariant c.requires.next) c.args.f c.remove-future.result c.remove-future.ensures.value
+pub at_mut-requires : goal.at_mut-requires
+at_mut-requires g c = waits_point (site c.self.inside.points c.self.inside.senders c.self.inside.holders c.self.inside.waits c.self.inside.next c.self.view_is c.self.invariant c.requires.next) c.args.f c.in-Some.future (sym c.take.ensures.value ∙ c.in-Some.is)
 
-pub finish-requires : goal.finish-requires
-finish-requires g c = wait_some (site c.self.inside.points c.self.inside.senders c.self.inside.holders c.self.inside.waits c.self.inside.next c.self.view_is c.self.invariant c.requires.next) c.args.f c.remove-future.result c.at_mut-entry.result.now c.remove-future.ensures.value c.at_mut-entry.ensures.value
+pub finish-over-requires-clause-some : goal.finish-over-requires-clause-some
+finish-over-requires-clause-some g c = wait_some (site c.self.inside.points c.self.inside.senders c.self.inside.holders c.self.inside.waits c.self.inside.next c.self.view_is c.self.invariant c.requires.next) c.args.f c.in-Some.future c.at_mut.result.now (sym c.take.ensures.value ∙ c.in-Some.is) c.at_mut.ensures.value
 
-pub release-over-requires : goal.release-over-requires
-release-over-requires g c = room_still (site c.self.inside.points c.self.inside.senders c.self.inside.holders c.self.inside.waits c.self.inside.next c.self.view_is c.self.invariant c.requires.next) c.remove-future.result.point c.at_mut-entry.result.now c.at_mut-entry.ensures.value c.args.ready.now c.requires.room c.finish.new.self c.finish.ensures
+pub finish-over-requires-clause-room : goal.finish-over-requires-clause-room
+finish-over-requires-clause-room g c = its_room (site c.self.inside.points c.self.inside.senders c.self.inside.holders c.self.inside.waits c.self.inside.next c.self.view_is c.self.invariant c.requires.next) c.in-Some.future.point c.at_mut.result.now c.at_mut.ensures.value c.args.ready.now c.requires.room
 
 pub remove_if-requires : goal.remove_if-requires
-remove_if-requires g c = λ over. over_there (site c.self.inside.points c.self.inside.senders c.self.inside.holders c.self.inside.waits c.self.inside.next c.self.view_is c.self.invariant c.requires.next) c.remove-future.result.point _
+remove_if-requires g c = λ over. over_there (site c.self.inside.points c.self.inside.senders c.self.inside.holders c.self.inside.waits c.self.inside.next c.self.view_is c.self.invariant c.requires.next) c.in-Some.future.point _
 
-pub invariant_of-self : goal.invariant_of-self
-invariant_of-self g c = rw c.remove_if.ensures ((wait_left (site c.self.inside.points c.self.inside.senders c.self.inside.holders c.self.inside.waits c.self.inside.next c.self.view_is c.self.invariant c.requires.next) c.args.f c.remove-future.result c.at_mut-entry.result.now c.remove-future.ensures.value c.at_mut-entry.ensures.value c.borrowed.result c.borrowed.ensures c.give_back.new.holders c.give_back.ensures c.finish.new.self c.finish.ensures c.release-over.result c.release-over.ensures.over c.args.ready.now c.release-over.new.ready c.release-over.ensures.wakers c.release-over.ensures.counted _ c.remove-future.ensures.rest).0)
+pub invariant_of-self-2 : goal.invariant_of-self-2
+invariant_of-self-2 g c = rw c.remove_if.ensures (wait_left (site c.self.inside.points c.self.inside.senders c.self.inside.holders c.self.inside.waits c.self.inside.next c.self.view_is c.self.invariant c.requires.next) c.args.f c.in-Some.future c.at_mut.result.now (sym c.take.ensures.value ∙ c.in-Some.is) c.at_mut.ensures.value c.borrowed.result c.borrowed.ensures c.give_back.new.holders c.give_back.ensures c.finish-over.new.self c.finish-over.ensures.entry c.finish-over.result c.finish-over.ensures.over c.args.ready.now c.finish-over.new.ready c.finish-over.ensures.wakers c.finish-over.ensures.counted _ c.take.ensures.rest).0
 
 pub returns : goal.returns
-returns g c = rw c.remove_if.ensures ((wait_left (site c.self.inside.points c.self.inside.senders c.self.inside.holders c.self.inside.waits c.self.inside.next c.self.view_is c.self.invariant c.requires.next) c.args.f c.remove-future.result c.at_mut-entry.result.now c.remove-future.ensures.value c.at_mut-entry.ensures.value c.borrowed.result c.borrowed.ensures c.give_back.new.holders c.give_back.ensures c.finish.new.self c.finish.ensures c.release-over.result c.release-over.ensures.over c.args.ready.now c.release-over.new.ready c.release-over.ensures.wakers c.release-over.ensures.counted _ c.remove-future.ensures.rest).1)
+returns g c = rw c.remove_if.ensures (wait_left (site c.self.inside.points c.self.inside.senders c.self.inside.holders c.self.inside.waits c.self.inside.next c.self.view_is c.self.invariant c.requires.next) c.args.f c.in-Some.future c.at_mut.result.now (sym c.take.ensures.value ∙ c.in-Some.is) c.at_mut.ensures.value c.borrowed.result c.borrowed.ensures c.give_back.new.holders c.give_back.ensures c.finish-over.new.self c.finish-over.ensures.entry c.finish-over.result c.finish-over.ensures.over c.args.ready.now c.finish-over.new.ready c.finish-over.ensures.wakers c.finish-over.ensures.counted _ c.take.ensures.rest).1

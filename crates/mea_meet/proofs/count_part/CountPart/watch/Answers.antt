@@ -1,12 +1,18 @@
+use Rattle.std.proofs.Common.{refl, sym, ap, ◌∙◌}
+use Rattle.std.specs.Option.{option_copied}
 use Rattle.mea_meet.proofs.CountSites.{site}
-use Rattle.mea_meet.proofs.CountCalls.{watched_by, counted_there, join_point}
+use Rattle.mea_meet.proofs.CountCalls.{no_watch, uncounted, join_point, watched_by}
+use Rattle.mea_meet.proofs.Playing.{unknown}
 use Rattle.mea_meet.proofs.count_part.CountPart.watch.Goals as goal
 
-pub at-requires : goal.at-requires
-at-requires g c = counted_there (site c.self.inside.points c.self.inside.senders c.self.inside.holders c.self.inside.waits c.self.inside.next c.self.view_is c.self.invariant c.requires.next) c.args.k c.requires.there
+pub returns-in_default : goal.returns-in_default
+returns-in_default g c = (unknown _ _ (no_watch (site c.self.inside.points c.self.inside.senders c.self.inside.holders c.self.inside.waits c.self.inside.next c.self.view_is c.self.invariant c.requires) c.args.k (sym c.get.ensures ∙ ap option_copied c.in_default.is)), refl)
+
+pub returns-then-not-holder : goal.returns-then-not-holder
+returns-then-not-holder g c = (unknown _ _ (uncounted (site c.self.inside.points c.self.inside.senders c.self.inside.holders c.self.inside.waits c.self.inside.next c.self.view_is c.self.invariant c.requires) c.args.k c.in-Some.holder.now (sym c.get.ensures ∙ ap option_copied c.in-Some.is) c.if-not-holder.true), refl)
 
 pub add-requires-clause-there : goal.add-requires-clause-there
-add-requires-clause-there g c = join_point (site c.self.inside.points c.self.inside.senders c.self.inside.holders c.self.inside.waits c.self.inside.next c.self.view_is c.self.invariant c.requires.next) c.args.k c.at.result.now c.at.ensures
+add-requires-clause-there g c = join_point (site c.self.inside.points c.self.inside.senders c.self.inside.holders c.self.inside.waits c.self.inside.next c.self.view_is c.self.invariant c.requires) c.args.k c.in-Some.holder.now (sym c.get.ensures ∙ ap option_copied c.in-Some.is)
 
-pub returns-clause-ok : goal.returns-clause-ok
-returns-clause-ok g c = watched_by (site c.self.inside.points c.self.inside.senders c.self.inside.holders c.self.inside.waits c.self.inside.next c.self.view_is c.self.invariant c.requires.next) c.args.k c.at.result.now c.at.ensures c.add.result c.add.new.self c.add.ensures.ok
+pub returns : goal.returns
+returns g c = watched_by (site c.self.inside.points c.self.inside.senders c.self.inside.holders c.self.inside.waits c.self.inside.next c.self.view_is c.self.invariant c.requires) c.args.k c.in-Some.holder.now (sym c.get.ensures ∙ ap option_copied c.in-Some.is) c.if-not-holder.false c.add.result c.add.new.self c.add.ensures

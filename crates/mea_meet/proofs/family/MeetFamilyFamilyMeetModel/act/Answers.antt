@@ -1,9 +1,10 @@
 use Rattle.std.proofs.Common.{◌+◌, arith, ap, sym, subst, ◌∙◌}
 use Rattle.mea_family.specs.Play.{Part, PartYields}
 use Rattle.mea_meet_model.specs.Hall.{Hall, registered}
-use Rattle.mea_meet_model.specs.Cause.{cause_of}
+use Rattle.mea_meet_model.specs.Cause.{cause_by}
 use Rattle.mea_meet_model.specs.Step.{step}
 use Rattle.mea_meet_model.specs.Valid.{IsValid}
+use Rattle.mea_meet.specs.Actions.{meant}
 use Rattle.mea_meet.specs.Halls.{hall_of, AreBelow}
 use Rattle.mea_meet.proofs.Playing.{below_after, yields_all}
 use Rattle.mea_meet.proofs.family.MeetFamilyFamilyMeetModel.act.Goals as goal
@@ -24,9 +25,9 @@ below c =
 -- what was played on the parts
 played : (c : In_ok-answer) → PartYields {H = Hall} registered (record { hall = hall_of c.self.inside.kinds.barriers c.self.inside.kinds.latches c.self.inside.kinds.groups c.self.inside.kinds.shutdowns; next = c.self.inside.next }) c.args.number
     (step (hall_of c.self.inside.kinds.barriers c.self.inside.kinds.latches c.self.inside.kinds.groups c.self.inside.kinds.shutdowns) c.args.number c.args.event.now) c.in_ok-answer.answer
-    (record { hall = hall_of c.play.new.self.barriers c.play.new.self.latches c.play.new.self.groups c.play.new.self.shutdowns; next = c.args.number + 1 }) c.args.ready.now c.play.new.ready
-played c = yields_all c.self.inside.kinds.barriers c.self.inside.kinds.latches c.self.inside.kinds.groups c.self.inside.kinds.shutdowns c.play.new.self.barriers c.play.new.self.latches c.play.new.self.groups c.play.new.self.shutdowns
-    c.args.ready.now c.play.new.ready c.self.inside.next c.args.number c.args.event.now c.in_ok-answer.answer c.in_ok-answer.ensures.played
+    (record { hall = hall_of c.act.new.self.barriers c.act.new.self.latches c.act.new.self.groups c.act.new.self.shutdowns; next = c.args.number + 1 }) c.args.ready.now c.act.new.ready
+played c = yields_all c.self.inside.kinds.barriers c.self.inside.kinds.latches c.self.inside.kinds.groups c.self.inside.kinds.shutdowns c.act.new.self.barriers c.act.new.self.latches c.act.new.self.groups c.act.new.self.shutdowns
+    c.args.ready.now c.act.new.ready c.args.number c.in_ok-answer.answer c.self.inside.next c.args.event.now (meant c.meaning_of.result) c.meaning_of.ensures.means c.in_ok-answer.ensures.1
 
 pub returns-clause-played : goal.returns-clause-played
 returns-clause-played c = rw (← c.self.view_is) (played (goal.at.returns-clause-played c).In_ok-answer)
@@ -44,8 +45,8 @@ invariant_of-self-2 c =
     let old = hall_of c.self.inside.kinds.barriers c.self.inside.kinds.latches c.self.inside.kinds.groups c.self.inside.kinds.shutdowns in
     let next = ap (λ (p : Part Hall). p.next) c.self.view_is in
     record {
-      below = below_after _ _ _ _ _ _ _ _ _ _ c.args.number c.args.event.now c.in_ok-answer.answer (below at) c.in_ok-answer.ensures.played;
+      below = below_after _ _ _ _ _ _ _ _ _ _ c.args.number c.in_ok-answer.answer (below at) (meant c.meaning_of.result) c.in_ok-answer.ensures.1;
       valid = subst (λ (h : Hall). IsValid h (c.args.number + 1)) (sym (ap (λ (p : Part Hall). p.hall) (played at).moved))
           (c.validity_is_kept.ensures.event old c.self.inside.next c.args.number c.args.event.now c.self.invariant.valid (omega (arith, next, c.requires.next))
-          (sym c.cause.ensures ∙ c.in_default.is));
+          (sym (ap (cause_by old) c.meaning_of.ensures.means) ∙ c.in_ok-answer.ensures.0));
     }

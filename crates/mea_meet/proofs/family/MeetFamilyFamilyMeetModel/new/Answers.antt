@@ -1,4 +1,4 @@
-use Rattle.std.proofs.Common.{sym, subst, arith}
+use Rattle.std.proofs.Common.{sym, subst}
 use Rattle.mea_meet_model.specs.Hall.{Hall}
 use Rattle.mea_meet_model.specs.Valid.{IsValid}
 use Rattle.mea_meet_model.proofs.Registrations.{none_registered}
@@ -6,12 +6,7 @@ use Rattle.mea_meet.proofs.family.MeetFamilyFamilyMeetModel.new.Goals as goal
 
 pub invariant_of-result : goal.invariant_of-result
 invariant_of-result c = record {
-  below = record {
-    barriers = omega (arith, c.new.ensures.barriers);
-    latches = omega (arith, c.new.ensures.latches);
-    groups = omega (arith, c.new.ensures.groups);
-    shutdowns = omega (arith, c.new.ensures.shutdowns);
-  };
+  below = c.new.ensures.below;
   valid = subst (λ (h : Hall). IsValid h 0) (sym c.new.ensures.hall) c.validity_is_kept.ensures.empty;
 }
 

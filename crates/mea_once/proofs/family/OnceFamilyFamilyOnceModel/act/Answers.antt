@@ -3,28 +3,17 @@ use Rattle.mea_family.specs.Play.{Part, PartYields}
 use Rattle.mea_once_model.specs.OnceHall.{OnceHall, registered}
 use Rattle.mea_once_model.specs.Meaning.{step}
 use Rattle.mea_once.specs.Actions.{meant}
-use Rattle.mea_once.specs.Halls.{parts, hall_of, AreBelow}
+use Rattle.mea_once.specs.Halls.{parts, hall_of}
 use Rattle.mea_once.proofs.Playing.{yields_all}
 use Rattle.mea_once.proofs.family.OnceFamilyFamilyOnceModel.act.Goals as goal
 use Rattle.mea_once.proofs.family.OnceFamilyFamilyOnceModel.act.Goals.{In_ok-answer}
 
--- the parts have seen no number from that of the event on
-below : (c : In_ok-answer) → AreBelow (parts c.self.inside.kinds.onces c.self.inside.kinds.values c.self.inside.kinds.maps c.self.inside.kinds.groups) c.args.number
-below c =
-    let next = ap (λ (p : Part OnceHall). p.next) c.self.view_is in
-    record {
-      onces = omega (arith, c.self.invariant.onces, next, c.requires.next);
-      values = omega (arith, c.self.invariant.values, next, c.requires.next);
-      maps = omega (arith, c.self.invariant.maps, next, c.requires.next);
-      groups = omega (arith, c.self.invariant.groups, next, c.requires.next);
-    }
-
 -- what was played on the parts
 played : (c : In_ok-answer) → PartYields {H = OnceHall} registered (record { hall = hall_of (parts c.self.inside.kinds.onces c.self.inside.kinds.values c.self.inside.kinds.maps c.self.inside.kinds.groups); next = c.self.inside.next }) c.args.number
     (step (hall_of (parts c.self.inside.kinds.onces c.self.inside.kinds.values c.self.inside.kinds.maps c.self.inside.kinds.groups)) c.args.number c.args.event.now) c.in_ok-answer.answer
-    (record { hall = hall_of (parts c.play.new.self.onces c.play.new.self.values c.play.new.self.maps c.play.new.self.groups); next = c.args.number + 1 }) c.args.ready.now c.play.new.ready
-played c = yields_all (parts c.self.inside.kinds.onces c.self.inside.kinds.values c.self.inside.kinds.maps c.self.inside.kinds.groups) (parts c.play.new.self.onces c.play.new.self.values c.play.new.self.maps c.play.new.self.groups)
-    c.args.ready.now c.play.new.ready c.self.inside.next c.args.number c.in_ok-answer.answer (below c) c.args.event.now (meant c.meaning_of-meaning.result) c.meaning_of-meaning.ensures.means c.in_ok-answer.ensures.played
+    (record { hall = hall_of (parts c.act.new.self.onces c.act.new.self.values c.act.new.self.maps c.act.new.self.groups); next = c.args.number + 1 }) c.args.ready.now c.act.new.ready
+played c = yields_all (parts c.self.inside.kinds.onces c.self.inside.kinds.values c.self.inside.kinds.maps c.self.inside.kinds.groups) (parts c.act.new.self.onces c.act.new.self.values c.act.new.self.maps c.act.new.self.groups)
+    c.args.ready.now c.act.new.ready c.self.inside.next c.args.number c.in_ok-answer.answer c.args.event.now (meant c.meaning_of.result) c.meaning_of.ensures.means c.in_ok-answer.ensures.1
 
 pub returns-clause-played : goal.returns-clause-played
 returns-clause-played c = rw (← c.self.view_is) (played (goal.at.returns-clause-played c).In_ok-answer)

@@ -1,11 +1,14 @@
-use Rattle.mea_once.proofs.TableEvents.{site, table_there, gone_kept, discarded}
+use Rattle.std.proofs.Common.{Some, None, sym, ap, ◌∙◌}
+use Rattle.std.specs.Option.{option_copied_mut}
+use Rattle.mea_once.proofs.Causes.{unknown}
+use Rattle.mea_once.proofs.TableEvents.{table_cause, site, gone_kept, discarded}
 use Rattle.mea_once.proofs.key_part.KeyPart.discard.Goals as goal
 
-pub at_mut-requires : goal.at_mut-requires
-at_mut-requires g c = table_there g.C.TableCore.is_once (site g.C.TableCore.is_once c.self.inside.tables c.self.inside.futures c.self.inside.next c.self.view_is c.self.invariant c.requires.next c.ranges.number.fits) c.args.o c.requires.there
+pub returns-in_default : goal.returns-in_default
+returns-in_default g c = (unknown _ _ (table_cause g.C.TableCore.is_once c.self.inside.tables c.self.inside.futures c.self.inside.next c.self.view_is c.args.o None (sym c.get_mut.ensures.value ∙ ap option_copied_mut c.in_default.is)), c.self.view_is)
 
-pub invariant_of-self : goal.invariant_of-self
-invariant_of-self g c = gone_kept g.C.TableCore.is_once (site g.C.TableCore.is_once c.self.inside.tables c.self.inside.futures c.self.inside.next c.self.view_is c.self.invariant c.requires.next c.ranges.number.fits) c.args.o c.at_mut.result.now c.at_mut.ensures.value c.args.key c.discard.new.self c.discard.ensures
+pub invariant_of-self-2 : goal.invariant_of-self-2
+invariant_of-self-2 g c = gone_kept g.C.TableCore.is_once (site g.C.TableCore.is_once c.self.inside.tables c.self.inside.futures c.self.inside.next c.self.view_is c.self.invariant c.requires c.ranges.number.fits) c.args.o c.in-Some.entry.now (sym c.get_mut.ensures.value ∙ ap option_copied_mut c.in-Some.is) c.args.key c.discard.new.self c.discard.ensures
 
 pub returns : goal.returns
-returns g c = discarded g.C.TableCore.is_once (site g.C.TableCore.is_once c.self.inside.tables c.self.inside.futures c.self.inside.next c.self.view_is c.self.invariant c.requires.next c.ranges.number.fits) c.args.o c.at_mut.result.now c.at_mut.ensures.value c.args.key c.discard.new.self c.discard.ensures
+returns g c = ((table_cause g.C.TableCore.is_once c.self.inside.tables c.self.inside.futures c.self.inside.next c.self.view_is c.args.o (Some c.in-Some.entry.now) (sym c.get_mut.ensures.value ∙ ap option_copied_mut c.in-Some.is)), discarded g.C.TableCore.is_once (site g.C.TableCore.is_once c.self.inside.tables c.self.inside.futures c.self.inside.next c.self.view_is c.self.invariant c.requires c.ranges.number.fits) c.args.o c.in-Some.entry.now (sym c.get_mut.ensures.value ∙ ap option_copied_mut c.in-Some.is) c.args.key c.discard.new.self c.discard.ensures)

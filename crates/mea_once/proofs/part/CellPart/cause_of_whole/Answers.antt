@@ -1,10 +1,11 @@
 use Rattle.std.proofs.Common.{ap, sym, ◌∙◌, None, Some}
 use Rattle.std.specs.Option.{option_copied}
-use Rattle.mea_once.proofs.PartEvents.{cell_of, refused_by, refused_unknown, futures_are}
+use Rattle.mea_once.proofs.Causes.{if_borrowed}
+use Rattle.mea_once.proofs.PartEvents.{whole_cause}
 use Rattle.mea_once.proofs.part.CellPart.cause_of_whole.Goals as goal
 
-pub returns-in-Some : goal.returns-in-Some
-returns-in-Some g c = c.borrowed_if.ensures ∙ refused_by c.has_futures.result c.args.self.now.hall c.args.o _ _ (sym (cell_of g.C.TurnCore.is_once c.self.inside.cells c.self.inside.futures c.self.inside.next c.self.view_is c.args.o (Some c.in-Some.entry.now) (sym c.get.ensures ∙ ap option_copied c.in-Some.is))) c.has_futures.ensures (futures_are g.C.TurnCore.is_once c.self.inside.cells c.self.inside.futures c.self.inside.next c.self.view_is c.self.invariant c.args.o c.in-Some.entry.now (sym c.get.ensures ∙ ap option_copied c.in-Some.is))
+pub returns-in-Some-clause-is : goal.returns-in-Some-clause-is
+returns-in-Some-clause-is g c = c.borrowed_if.ensures ∙ ap if_borrowed c.has_futures.ensures ∙ sym (whole_cause g.C.TurnCore.is_once c.self.inside.cells c.self.inside.futures c.self.inside.next c.self.view_is c.self.invariant c.args.o (Some c.in-Some.entry.now) (sym c.get.ensures ∙ ap option_copied c.in-Some.is))
 
-pub returns-in-None : goal.returns-in-None
-returns-in-None g c = refused_unknown c.args.self.now.hall c.args.o _ (sym (cell_of g.C.TurnCore.is_once c.self.inside.cells c.self.inside.futures c.self.inside.next c.self.view_is c.args.o None (sym c.get.ensures ∙ ap option_copied c.in-None.is)))
+pub returns-in-None-clause-is : goal.returns-in-None-clause-is
+returns-in-None-clause-is g c = sym (whole_cause g.C.TurnCore.is_once c.self.inside.cells c.self.inside.futures c.self.inside.next c.self.view_is c.self.invariant c.args.o None (sym c.get.ensures ∙ ap option_copied c.in-None.is))
