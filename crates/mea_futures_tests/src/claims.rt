@@ -1,4 +1,4 @@
-use crate::polls::{Answer, Tasks, rests};
+use crate::polls::{Answer, Tasks, given, rests};
 use futures::Future;
 use futures::future::{pending, ready};
 use futures::task::{Context, Poll};
@@ -22,7 +22,7 @@ fn an_abandoned_initialiser_passes_its_turn_on(rt: HostRuntime) {
     is_abandoned(&rt, &cell, cell.claim(), cell.claim());
 }
 
-// The first computes for ever, and the second at once.
+// The first computes for ever.
 fn is_abandoned<
     'c,
     R: Wait + RandomSource + AllocGlobal + Abort,
@@ -35,6 +35,22 @@ fn is_abandoned<
 {
     let init = pending::<Result<u64, Never>>();
     let never = initialise(rt, rt.alloc(), first, init).expect(rt, "memory");
+    is_taken_over(rt, cell, never, second);
+}
+
+// The second computes at once.
+fn is_taken_over<
+    'c,
+    R: Wait + RandomSource + AllocGlobal + Abort,
+    O: Drop,
+    N: Future<Output = O>,
+    F: Waits<Bell, Claimed<&'c u64, C>>,
+    C: Claim<u64, &'c u64, G>,
+    G: End,
+>(rt: &R, cell: &'c OnceCell<u64, Bell>, never: N, second: F)
+    requires never { N.can_poll never }
+    requires second { F.can_poll second }
+{
     let init = ready(Ok::<u64, Never>(9));
     let nine = initialise(rt, rt.alloc(), second, init).expect(rt, "memory");
     passes_its_turn_on(rt, &Tasks::new(rt), cell, never, nine);
@@ -56,10 +72,7 @@ fn passes_its_turn_on<
     assert!(rt; !two.is_woken() && cell.get().is_none());
     drop(never);
     assert!(rt; two.is_woken());
-    match two.poll(&mut nine) {
-        Poll::Ready(Ok(Ok(value))) => assert!(rt; *value == 9),
-        _ => assert!(rt; false, "not filled"),
-    }
+    assert!(rt; given(two.poll(&mut nine)) == Some(&9));
     assert!(rt; cell.get() == Some(&9));
 }
 
@@ -80,11 +93,16 @@ impl<'a> Future for Fetch<'a> {
             return cx.yield_now();
         }
         self.fetches.fetch_add(1, SeqCst);
-        if self.page == 0 {
-            return Poll::Ready(Err(7));
-        }
-        Poll::Ready(Ok(self.page.wrapping_mul(10)))
+        Poll::Ready(fetched(self.page))
     }
+}
+
+// What is there to be fetched. There is no page 0.
+fn fetched(page: u64) -> Result<u64, u8> {
+    if page == 0 {
+        return Err(7);
+    }
+    Ok(page.wrapping_mul(10))
 }
 
 // A fetch that was never polled.
@@ -103,12 +121,12 @@ type Page = Answer<u64, u8>;
 type Flights<S> = Group<u64, u64, S, Bell>;
 
 // Two requests are polled in turn: the first fetches, and the second waits for it. It tells what both have.
-fn answers<R: Abort, F: Future<Output = Page>>(
+fn answers<R: Abort, O: Drop, F: Future<Output = O>>(
     rt: &R,
     tasks: &Tasks,
     mut first: F,
     mut second: F,
-) -> (Poll<Page>, Poll<Page>)
+) -> (Poll<O>, Poll<O>)
     requires first { F.can_poll first }
     requires second { F.can_poll second }
 {

@@ -1,6 +1,7 @@
 ghost use Rattle.std.specs.Prelude.{◌≡◌, IsSomeAnd};
 
-use crate::polls::rests;
+use crate::polls::{Answer, rests};
+use crate::waits::holding;
 use futures::Future;
 use futures::executor::block_on;
 use futures::future::{Either, Pending, Select, join, pending, ready, select};
@@ -57,15 +58,29 @@ fn permits_are_taken(rt: HostRuntime) {
 }
 
 fn are_taken<R: Wait + RandomSource + AllocGlobal + Abort>(rt: &R, semaphore: &Semaphore<Bell>) {
-    let kept = take(rt, semaphore, 2).expect(rt, "memory");
-    let kept = kept.expect(rt, "permits");
+    let kept = granted(take(rt, semaphore, 2)).expect(rt, "permits");
     assert!(rt; kept.get().permits() == 2 && semaphore.available_permits(rt) == 0);
     assert!(rt; is_late(take_before(rt, semaphore, 1, ready(()))));
     drop(kept);
+    are_given_back(rt, semaphore);
+}
+
+fn are_given_back<R: Wait + RandomSource + AllocGlobal + Abort>(
+    rt: &R,
+    semaphore: &Semaphore<Bell>,
+) {
     assert!(rt; semaphore.available_permits(rt) == 2);
     assert!(rt; is_in_time(take_before(rt, semaphore, 1, ready(()))));
     semaphore.close(rt);
     assert!(rt; is_closed(take(rt, semaphore, 1)));
+}
+
+// What was waited for, if it came to that.
+fn granted<P: Drop, E: Drop>(answer: io::Result<Result<P, E>>) -> Option<P> {
+    match answer {
+        Ok(Ok(granted)) => Some(granted),
+        Ok(Err(_)) | Err(_) => None,
+    }
 }
 
 // A wait on this thread is one line, for any wait of the library.
@@ -148,12 +163,20 @@ fn is_selected<
     requires first { F.can_poll first }
     requires second { F.can_poll second }
 {
-    let first = wait(rt, rt.alloc(), first).expect(rt, "memory");
-    let held = block_on(rt, first.try_holding());
-    assert!(rt; matches!(held, Ok(Ok(Ok(_)))));
-    let second = wait(rt, rt.alloc(), second).expect(rt, "memory");
-    let late = block_on(rt, select(second.try_holding(), ready(())));
-    assert!(rt; matches!(late, Ok(Either::Right(_))));
+    let held = block_on(rt, holding(rt, first));
+    assert!(rt; is_held(&held));
+    let late = block_on(rt, select(holding(rt, second), ready(())));
+    assert!(rt; is_of_the_second(late));
+}
+
+// Whether a wait came to what it waits for.
+fn is_held<P, E>(answer: &io::Result<Answer<P, E>>) -> bool {
+    matches!(answer, Ok(Ok(Ok(_))))
+}
+
+// Whether the second arm of a select came first.
+fn is_of_the_second<A: Drop, B: Drop>(arm: io::Result<Either<A, B>>) -> bool {
+    matches!(arm, Ok(Either::Right(_)))
 }
 
 // Whether the deadline came before the permits.

@@ -1,5 +1,6 @@
-use crate::job::{acquire, holding, shared};
+use crate::job::{acquire, shared};
 use crate::polls::{Answer, Tasks, has, rests};
+use crate::waits::{holding, is_granted, is_pending};
 use futures::Future;
 use futures::task::Poll;
 use futures::test::MockTask;
@@ -31,12 +32,12 @@ fn takes_over<
     let tasks = Tasks::new(rt);
     let Tasks { one, two } = &tasks;
     let mut first = holding(rt, first);
-    assert!(rt; rests(one, &mut first) && rests(one, &mut first));
+    assert!(rt; is_pending(one, &mut first) && is_pending(one, &mut first));
     assert!(rt; !one.is_woken());
-    assert!(rt; rests(two, &mut first));
+    assert!(rt; is_pending(two, &mut first));
     assert!(rt; one.is_woken() && !two.is_woken());
     assert!(rt; semaphore.release(rt, 1).is_ok() && two.is_woken());
-    assert!(rt; has(two, &mut first));
+    assert!(rt; is_granted(two, &mut first));
     assert!(rt; semaphore.available_permits(rt) == 1);
 }
 
@@ -60,11 +61,11 @@ fn lets_the_next_one_in<
     let tasks = Tasks::new(rt);
     let Tasks { one, two } = &tasks;
     let (mut first, mut second) = (holding(rt, first), holding(rt, second));
-    assert!(rt; rests(one, &mut first) && rests(two, &mut second));
+    assert!(rt; is_pending(one, &mut first) && is_pending(two, &mut second));
     assert!(rt; !two.is_woken());
     drop(first);
     assert!(rt; two.is_woken() && semaphore.available_permits(rt) == 1);
-    assert!(rt; has(two, &mut second));
+    assert!(rt; is_granted(two, &mut second));
     assert!(rt; semaphore.available_permits(rt) == 2);
 }
 
@@ -142,11 +143,11 @@ fn begins_again<
 {
     let task = &MockTask::new(rt).expect(rt, "memory");
     let mut first = holding(rt, first);
-    assert!(rt; has(task, &mut first));
+    assert!(rt; is_granted(task, &mut first));
     first.restart(next);
-    assert!(rt; rests(task, &mut first) && !task.is_woken());
+    assert!(rt; is_pending(task, &mut first) && !task.is_woken());
     assert!(rt; semaphore.release(rt, 1).is_ok() && task.is_woken());
-    assert!(rt; has(task, &mut first));
+    assert!(rt; is_granted(task, &mut first));
     assert!(rt; semaphore.available_permits(rt) == 2);
 }
 
@@ -171,12 +172,12 @@ fn is_ended_by_the_next<
     let tasks = Tasks::new(rt);
     let Tasks { one, two } = &tasks;
     let (mut first, mut second) = (holding(rt, first), holding(rt, second));
-    assert!(rt; rests(one, &mut first) && rests(two, &mut second));
+    assert!(rt; is_pending(one, &mut first) && is_pending(two, &mut second));
     assert!(rt; !two.is_woken());
     first.restart(next);
-    assert!(rt; two.is_woken() && rests(one, &mut first) && !one.is_woken());
-    assert!(rt; has(two, &mut second));
+    assert!(rt; two.is_woken() && is_pending(one, &mut first) && !one.is_woken());
+    assert!(rt; is_granted(two, &mut second));
     assert!(rt; one.is_woken());
-    assert!(rt; has(one, &mut first));
+    assert!(rt; is_granted(one, &mut first));
     assert!(rt; semaphore.available_permits(rt) == 1);
 }

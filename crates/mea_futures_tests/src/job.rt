@@ -1,10 +1,11 @@
-ghost use Rattle.std.specs.Prelude.{◌≡◌, Some, None, IsSome, IfNone};
+ghost use Rattle.std.specs.Prelude.{◌≡◌, None, IsSome, IfNone};
 
+use crate::polls::granted;
+use crate::waits::holding;
 use futures::task::{Context, Poll};
 use futures::{Future, ready};
-use mea_futures::{Acquiring, Bell, Kept, TryHolding, wait};
+use mea_futures::{Acquiring, Bell, Kept};
 use mea_sync::semaphore::{OwnedAcquire, OwnedSemaphorePermit, Semaphore};
-use mea_wait::Waits;
 use std::alloc::AllocGlobal;
 use std::process::Abort;
 use std::sync::atomic::AtomicU64;
@@ -71,17 +72,6 @@ pub fn acquire<R: Abort>(
         .acquire_owned(permits)
 }
 
-/// A wait as a future whose output may be dropped, with a bell, and never polled.
-pub fn holding<'a, R: Wait + AllocGlobal + Abort, F: Waits<Bell, Result<P, E>>, P, E>(
-    rt: &'a R,
-    of: F,
-) -> TryHolding<'a, R, F, P, E>
-    requires { F.can_poll of }
-    ensures { result.waiting.wait ≡ Some of }
-{
-    wait(rt, rt.alloc(), of).expect(rt, "memory").try_holding()
-}
-
 /// A task: it acquires, yields with the permit, and gives it back where it drops what it kept.
 #[derive(Drop)]
 pub struct Job<'a, R: Wait> {
@@ -115,13 +105,13 @@ impl<'a, R: Wait> Future for Job<'a, R> {
             drop(held);
             return Poll::Ready(());
         }
-        match ready!(self.acquire.poll(cx)) {
-            Ok(Ok(permit)) => {
+        match granted(ready!(self.acquire.poll(cx))) {
+            Some(permit) => {
                 self.seen.enter();
                 self.held = Some(permit);
                 cx.yield_now()
             }
-            _ => Poll::Ready(()),
+            None => Poll::Ready(()),
         }
     }
 }

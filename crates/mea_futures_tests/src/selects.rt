@@ -1,4 +1,5 @@
-use crate::job::{acquire, holding, shared};
+use crate::job::{acquire, shared};
+use crate::waits::holding;
 use futures::executor::block_on;
 use futures::future::{Either, ready, select};
 use mea_futures::Bell;
@@ -18,9 +19,14 @@ fn beside<
 >(rt: &R, of: F) -> io::Result<Option<u8>>
     requires { F.can_poll of }
 {
-    match block_on(rt, select(holding(rt, of), ready(5u8)))? {
-        Either::Right((five, _wait)) => Ok(Some(five)),
-        Either::Left((_, _)) => Ok(None),
+    Ok(of_the_second(block_on(rt, select(holding(rt, of), ready(5u8)))?))
+}
+
+// What the second arm gave, if it came first; the other arm is dropped.
+fn of_the_second<L: Drop, F: Drop>(either: Either<L, (u8, F)>) -> Option<u8> {
+    match either {
+        Either::Right((five, _)) => Some(five),
+        Either::Left(_) => None,
     }
 }
 

@@ -90,21 +90,40 @@ fn hears<R: Wait + RandomSource + AllocGlobal + Abort, C: Receives<Result<u64, L
     hub: Kept<'_, R, overflow::Sender<u64, Bell>>,
     receiver: C,
 ) {
-    let task = &MockTask::new(rt).expect(rt, "memory");
+    let task = MockTask::new(rt).expect(rt, "memory");
     let mut stream = receive(rt, rt.alloc(), receiver).expect(rt, "memory");
+    misses_one(rt, &task, hub.get(), &mut stream);
+    hears_on(rt, &task, hub, &mut stream);
+}
+
+// Of three messages two are kept.
+fn misses_one<R: Wait + Abort, C: Receives<Result<u64, Lagged>>>(
+    rt: &R,
+    task: &MockTask,
+    hub: &overflow::Sender<u64, Bell>,
+    stream: &mut Receiving<'_, R, C, Result<u64, Lagged>>,
+) {
     for message in 1..4u64 {
-        assert!(rt; hub.get().send(rt, message).is_ok());
+        assert!(rt; hub.send(rt, message).is_ok());
     }
-    assert!(rt; gives(task, &mut stream, Poll::Ready(Some(Err(Lagged(1))))));
-    assert!(rt; gives(task, &mut stream, Poll::Ready(Some(Ok(2)))));
-    assert!(rt; gives(task, &mut stream, Poll::Ready(Some(Ok(3)))));
+    assert!(rt; gives(task, stream, Poll::Ready(Some(Err(Lagged(1))))));
+    assert!(rt; gives(task, stream, Poll::Ready(Some(Ok(2)))));
+    assert!(rt; gives(task, stream, Poll::Ready(Some(Ok(3)))));
+}
+
+fn hears_on<R: Wait + Abort, C: Receives<Result<u64, Lagged>>>(
+    rt: &R,
+    task: &MockTask,
+    hub: Kept<'_, R, overflow::Sender<u64, Bell>>,
+    stream: &mut Receiving<'_, R, C, Result<u64, Lagged>>,
+) {
     // Two polls that find nothing wake nobody.
-    assert!(rt; gives(task, &mut stream, Poll::Pending));
-    assert!(rt; gives(task, &mut stream, Poll::Pending) && !task.is_woken());
+    assert!(rt; gives(task, stream, Poll::Pending));
+    assert!(rt; gives(task, stream, Poll::Pending) && !task.is_woken());
     assert!(rt; hub.get().send(rt, 4).is_ok() && task.is_woken());
-    assert!(rt; gives(task, &mut stream, Poll::Ready(Some(Ok(4)))));
-    assert!(rt; gives(task, &mut stream, Poll::Pending));
+    assert!(rt; gives(task, stream, Poll::Ready(Some(Ok(4)))));
+    assert!(rt; gives(task, stream, Poll::Pending));
     drop(hub);
     assert!(rt; task.is_woken());
-    assert!(rt; gives(task, &mut stream, Poll::Ready(None)));
+    assert!(rt; gives(task, stream, Poll::Ready(None)));
 }
