@@ -1,7 +1,7 @@
 use crate::play::{Lends, Lent, NOTHING, Row, Script, check_scripts};
 use mea_events::ShareEvent;
 use mea_family::{Answer, Stop};
-use mea_share::{ShareHall, ShareFamily};
+use mea_share::{ShareFamily, ShareHall};
 
 // How many permits of an admission are free.
 impl Lends for ShareFamily {
