@@ -178,7 +178,7 @@ fn calls_of_a_bounded_channel(rt: HostRuntime) {
 // No memory can hold so many messages, and no number so many senders.
 #[test]
 fn numbers_have_ends(rt: HostRuntime) {
-    assert!(rt; is_too_much(rt.alloc(), usize::MAX));
+    assert!(rt; has_no_room(rt.alloc()));
     let channel = BoundedCore::at_senders(rt.alloc(), 1, usize::MAX);
     let mut channel: Channel = channel.expect(&rt, "memory");
     assert!(rt; !takes_a_sender(&mut channel));
@@ -186,8 +186,8 @@ fn numbers_have_ends(rt: HostRuntime) {
     assert!(rt; takes_a_sender(&mut channel));
 }
 
-fn is_too_much(alloc: Global, messages: usize) -> bool {
-    BoundedCore::<u64, u64>::new(alloc, messages).is_err()
+fn has_no_room(alloc: Global) -> bool {
+    BoundedCore::<u64, u64>::new(alloc, usize::MAX).is_err()
 }
 
 fn takes_a_sender(channel: &mut Channel) -> bool {
