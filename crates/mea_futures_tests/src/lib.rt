@@ -24,5 +24,3 @@ mod sinks;
 mod streams;
 #[cfg(test)]
 mod supervisor;
-#[cfg(test)]
-mod waits;

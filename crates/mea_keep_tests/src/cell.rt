@@ -1,8 +1,7 @@
-use crate::claims::{bell, computes, gave, mine, queues, there, tries};
+use crate::claims::{mine, queues, there};
 use mea_keep::once::OnceCell;
-use mea_keep::{AtOnce, Claim, Claimed, TryAtOnce};
-use mea_test_support::{Bell, Count, end, gives, rung};
-use mea_wait::{End, Waits};
+use mea_keep::{AtOnce, TryAtOnce};
+use mea_test_support::{Bell, Count, count, end, gives, rung};
 use std::process::Abort;
 use std::sync::Wait;
 
@@ -10,7 +9,7 @@ type Cell = OnceCell<u64, Bell>;
 
 // What the cell has for who computes this value.
 fn computed<R: Wait>(rt: &R, cell: &Cell, value: u64, bell: &Count) -> Option<u64> {
-    let found = computes(rt, cell.get_or_init(AtOnce::new(|| value)), bell)?;
+    let found = gives(rt, Some(cell.get_or_init(AtOnce::new(|| value))), bell)?;
     Some(*found)
 }
 
@@ -21,7 +20,11 @@ fn tried<R: Wait>(
     answer: Result<u64, u8>,
     bell: &Count,
 ) -> Option<Result<u64, u8>> {
-    match tries(rt, cell.get_or_try_init(TryAtOnce::new(|| answer)), bell)? {
+    match gives(
+        rt,
+        Some(cell.get_or_try_init(TryAtOnce::new(|| answer))),
+        bell,
+    )? {
         Ok(found) => Some(Ok(*found)),
         Err(error) => Some(Err(error)),
     }
@@ -30,27 +33,18 @@ fn tried<R: Wait>(
 // Who has the turn fills the cell; the next that waits is woken and finds the value.
 #[test]
 fn a_claim_is_finished(rt: HostRuntime) {
-    let (one, two) = (bell(&rt), bell(&rt));
+    let one = count(rt.alloc()).expect(&rt, "memory");
+    let two = count(rt.alloc()).expect(&rt, "memory");
     let cell = Cell::new(rt.alloc());
-    is_finished(&rt, &cell, (cell.claim(), cell.claim()), &one, &two);
+    is_finished(&rt, &cell, &one, &two);
     is_full(&rt, &cell, &one);
 }
 
-fn is_finished<
-    'c,
-    R: Wait + Abort,
-    F: Waits<Bell, Claimed<&'c u64, C>>,
-    C: Claim<u64, &'c u64, G>,
-    G: End,
->(rt: &R, cell: &'c Cell, callers: (F, F), one: &Count, two: &Count)
-    requires first { F.can_poll callers.0 }
-    requires second { F.can_poll callers.1 }
-{
-    let (first, second) = callers;
-    let claim = mine(rt, first, one);
-    let second = queues(rt, second, two);
+fn is_finished<R: Wait + Abort>(rt: &R, cell: &Cell, one: &Count, two: &Count) {
+    let claim = mine(rt, cell.claim(), one).expect(rt, "the turn");
+    let second = queues(rt, cell.claim(), two);
     assert!(rt; cell.get().is_none());
-    assert!(rt; gave(rt, claim, 5) == Some(&5));
+    assert!(rt; *claim.finish(rt, 5) == 5);
     assert!(rt; (rung(one), rung(two)) == (0, 1));
     assert!(rt; there(rt, second, two) == Some(&5));
 }
@@ -65,45 +59,41 @@ fn is_full<R: Wait + Abort>(rt: &R, cell: &Cell, bell: &Count) {
 // A claim that is ended passes the turn on.
 #[test]
 fn a_claim_is_abandoned(rt: HostRuntime) {
-    let (one, two) = (bell(&rt), bell(&rt));
+    let one = count(rt.alloc()).expect(&rt, "memory");
+    let two = count(rt.alloc()).expect(&rt, "memory");
     let cell = Cell::new(rt.alloc());
-    is_abandoned(&rt, (cell.claim(), cell.claim()), &one, &two);
-    assert!(rt; gives(&rt, Some(cell.set(3)), &one) == Some(Ok(())));
-    assert!(rt; cell.get() == Some(&3));
+    is_abandoned(&rt, &cell, &one, &two);
 }
 
-fn is_abandoned<R: Wait + Abort, F: Waits<Bell, Claimed<V, C>>, V: Drop, C: End>(
-    rt: &R,
-    callers: (F, F),
-    one: &Count,
-    two: &Count,
-)
-    requires first { F.can_poll callers.0 }
-    requires second { F.can_poll callers.1 }
-{
-    let (first, second) = callers;
-    let first = mine(rt, first, one);
-    let second = queues(rt, second, two);
+fn is_abandoned<R: Wait + Abort>(rt: &R, cell: &Cell, one: &Count, two: &Count) {
+    let first = mine(rt, cell.claim(), one);
+    let second = queues(rt, cell.claim(), two);
     assert!(rt; end(rt, first));
     assert!(rt; rung(two) == 1);
-    // The second is ended once it was its turn, so that the cell is free.
+    // The second is ended once it was its turn, so that this goes on.
     assert!(rt; end(rt, second));
+    assert!(rt; gives(rt, Some(cell.set(3)), one) == Some(Ok(())));
+    assert!(rt; cell.get() == Some(&3));
 }
 
 // An initialiser that has an error leaves the cell empty.
 #[test]
 fn an_initialiser_fails(rt: HostRuntime) {
-    let bell = bell(&rt);
+    let bell = count(rt.alloc()).expect(&rt, "memory");
     let cell = Cell::new(rt.alloc());
-    assert!(rt; tried(&rt, &cell, Err(4), &bell) == Some(Err(4)));
+    fails(&rt, &cell, &bell);
+}
+
+fn fails<R: Wait + Abort>(rt: &R, cell: &Cell, bell: &Count) {
+    assert!(rt; tried(rt, cell, Err(4), bell) == Some(Err(4)));
     assert!(rt; cell.get().is_none());
-    assert!(rt; tried(&rt, &cell, Ok(1), &bell) == Some(Ok(1)));
+    assert!(rt; tried(rt, cell, Ok(1), bell) == Some(Ok(1)));
 }
 
 // Who has the whole cell.
 #[test]
 fn a_cell_is_lent_whole(rt: HostRuntime) {
-    let bell = bell(&rt);
+    let bell = count(rt.alloc()).expect(&rt, "memory");
     let mut cell = Cell::new(rt.alloc());
     assert!(rt; writes(&rt, &mut cell, 5, 6, &bell));
     assert!(rt; reads(&rt, &mut cell, &bell) == Some(6));

@@ -1,20 +1,10 @@
-//! Polls of waits for a claim, and of those that have an initialiser, which hand out what they came to.
-//!
-//! The tests hand their waits to functions that are generic in them: there a wait is one bound, where the proof builds the
-//! whole of a type that is known anew at each call.
+//! Polls of waits for a claim, which hand out what they came to.
 ghost use Rattle.std.specs.Prelude.{IfSome};
 
-use mea_keep::{Claim, Claimed, Claiming, Computing, Init, Never, Unfailing};
-use mea_test_support::{Bell, Count, PollOutcome, count, gives, poll};
+use mea_keep::{Claim, Claimed};
+use mea_test_support::{Bell, Count, PollOutcome, gives, poll};
 use mea_wait::{End, Waits};
-use std::alloc::AllocGlobal;
-use std::process::Abort;
 use std::sync::Wait;
-
-/// A count of no wakes.
-pub(crate) fn bell<R: AllocGlobal + Abort>(rt: &R) -> Count {
-    count(rt.alloc()).expect(rt, "memory")
-}
 
 /// The turn that a wait gives; what it gives instead is dropped.
 pub(crate) fn mine<R: Wait, F: Waits<Bell, Claimed<V, C>>, V: Drop, C: End>(
@@ -68,11 +58,11 @@ pub(crate) fn there<R: Wait, F: Waits<Bell, Claimed<V, C>>, V, C: End>(
 }
 
 /// What who has the turn gets for the value that it gives; a wait that comes back for want of memory is ended.
-pub(crate) fn gave<R: Wait, T: Drop, V, C: Claim<T, V, G>, G: End>(
+pub(crate) fn gave<R: Wait, C: Claim<u64, u64, G>, G: End>(
     rt: &R,
     claim: Option<C>,
-    value: T,
-) -> Option<V> {
+    value: u64,
+) -> Option<u64> {
     match claim?.finish(rt, value) {
         Ok(value) => Some(value),
         Err(kept) => {
@@ -80,35 +70,4 @@ pub(crate) fn gave<R: Wait, T: Drop, V, C: Claim<T, V, G>, G: End>(
             None
         }
     }
-}
-
-/// What a wait gives whose initialiser has no error: of a cell, a map, a group or a call that runs once.
-pub(crate) fn computes<
-    R: Wait,
-    F: Claiming<Bell, V, C>,
-    C: Claim<T, V, G>,
-    G: Claiming<Bell, V, Never>,
-    I: Init<T, Never, Bell> + Drop,
-    T,
-    V,
->(rt: &R, wait: Unfailing<Computing<F, C, G, I, T, Never>>, count: &Count) -> Option<V>
-    requires { I.may_poll wait.wait.init }
-{
-    gives(rt, Some(wait), count)
-}
-
-/// What a wait gives whose initialiser may have an error.
-pub(crate) fn tries<
-    R: Wait,
-    F: Claiming<Bell, V, C>,
-    C: Claim<T, V, G>,
-    G: Claiming<Bell, V, Never>,
-    I: Init<T, E, Bell> + Drop,
-    T,
-    V,
-    E,
->(rt: &R, wait: Computing<F, C, G, I, T, E>, count: &Count) -> Option<Result<V, E>>
-    requires { I.may_poll wait.init }
-{
-    gives(rt, Some(wait), count)
 }

@@ -1,11 +1,9 @@
-use crate::claims::bell;
-use crate::group::Flights;
 use mea_base::Poll;
 use mea_keep::singleflight::Group;
-use mea_keep::{Claim, Claiming, Computing, Init, Never, Unfailing};
-use mea_test_support::{Bell, Count, PollOutcome, poll, polled_for};
+use mea_keep::{Init, Never};
+use mea_test_support::{Bell, Count, PollOutcome, count, poll, polled_for};
 use std::alloc::{AllocError, Global};
-use std::hash::BuildHasher;
+use std::hash::{BuildHasherDefault, FoldHasher};
 use std::sync::Wait;
 use std::sync::atomic::AtomicU64;
 use std::sync::atomic::Ordering::SeqCst;
@@ -33,10 +31,12 @@ impl<'a> Init<u64, Never, Bell> for Gathers<'a> {
     }
 }
 
-// One caller of the group.
-fn works<R: Wait, S: BuildHasher + Drop>(
+type Flights = Group<u64, u64, BuildHasherDefault<FoldHasher>, Bell>;
+
+// One caller: its first poll counts it among those that wait.
+fn works<R: Wait>(
     rt: &R,
-    group: &Flights<S>,
+    group: &Flights,
     waiting: &AtomicU64,
     runs: &AtomicU64,
     bell: &Count,
@@ -46,25 +46,7 @@ fn works<R: Wait, S: BuildHasher + Drop>(
         all: 16,
         runs,
     };
-    waits(rt, group.work(1, init), waiting, bell)
-}
-
-// What a wait gives whose first poll counts it among those that wait.
-fn waits<
-    R: Wait,
-    F: Claiming<Bell, u64, C>,
-    C: Claim<u64, u64, G>,
-    G: Claiming<Bell, u64, Never>,
-    I: Init<u64, Never, Bell> + Drop,
->(
-    rt: &R,
-    wait: Unfailing<Computing<F, C, G, I, u64, Never>>,
-    waiting: &AtomicU64,
-    bell: &Count,
-) -> Option<u64>
-    requires { I.may_poll wait.wait.init }
-{
-    let told = poll(rt, wait, bell);
+    let told = poll(rt, group.work(1, init), bell);
     waiting.fetch_add(1, SeqCst);
     match told {
         PollOutcome::Ready(value) => Some(value),
@@ -85,8 +67,8 @@ fn no_answers(alloc: Global, many: u64) -> Result<Vec<Option<u64>>, AllocError> 
 // Sixteen threads ask for one key: its initialiser runs once, and each has the value.
 #[test]
 fn a_single_flight(rt: HostRuntime) {
-    let bell = bell(&rt);
-    let group = Group::new(rt.alloc());
+    let bell = count(rt.alloc()).expect(&rt, "memory");
+    let group = Flights::new(rt.alloc());
     let (waiting, runs) = (AtomicU64::new(0), AtomicU64::new(0));
     let mut answers = no_answers(rt.alloc(), 16).expect(&rt, "memory");
     let (rt, of, waits, run, rung) = (&rt, &group, &waiting, &runs, &bell);
