@@ -1,6 +1,5 @@
 //! Tests of the pool that threads and tasks share, by public contracts alone: each call, its answer and the wakers that it woke;
-//! threads whose waits are given up; and waits under executors. Beside them stand the first programs of
-//! docs/EXECUTORS.md. It has no code but tests.
+//! threads whose waits are given up; and waits under executors. It has no code but tests.
 #![tactic(auto)]
 
 #[cfg(test)]
@@ -11,7 +10,5 @@ mod connections;
 mod executors;
 #[cfg(test)]
 mod leases;
-#[cfg(test)]
-mod pipelines;
 #[cfg(test)]
 mod threads;

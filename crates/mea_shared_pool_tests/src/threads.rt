@@ -2,7 +2,6 @@ use crate::leases::pool;
 use mea_shared_pool::{Closed, Pool};
 use mea_test_support::{Bell, Count, count, polled_for};
 use mea_wait::End;
-use std::process::Abort;
 use std::sync::Wait;
 use std::sync::atomic::AtomicU64;
 use std::sync::atomic::Ordering::SeqCst;
@@ -15,8 +14,6 @@ struct Place {
     rung: Count,
     // How many leases were got.
     leases: AtomicU64,
-    // Whether the first thread drains the pool.
-    drains: bool,
 }
 
 // One wait of a thread, given up before its first poll or after as many polls as told, or polled until it has a lease, by which
@@ -53,21 +50,11 @@ fn asks_often<R: Wait>(rt: &R, place: &Place, thread: u64) {
     }
 }
 
-// Where the pool is drained, the first thread does it and waits for the end; all others ask often.
-fn plays<R: Wait>(rt: &R, place: &Place, thread: u64) {
-    if place.drains && thread == 0 {
-        place.pool.drain(rt);
-        let _drained = polled_for(rt, place.pool.drained(), &place.rung, 10_000_000);
-    } else {
-        asks_often(rt, place, thread);
-    }
-}
-
 fn on_four_threads<R: thread::Threads + Wait + Sync>(rt: &R, place: &Place) {
     thread::scope(thread::scope_env(), rt, |scope| {
         for thread in 0..4u64 {
-            if scope.spawn(move || plays(rt, place, thread)).is_err() {
-                plays(rt, place, thread);
+            if scope.spawn(move || asks_often(rt, place, thread)).is_err() {
+                asks_often(rt, place, thread);
             }
         }
     });
@@ -96,37 +83,58 @@ fn added(resources: &[u64]) -> Option<u64> {
 // was added to them is one for each lease.
 #[test]
 fn waits_given_up_lose_no_resource(rt: HostRuntime) {
-    let resources = vec![in rt.alloc(); 10_000_000u64, 20_000_000, 30_000_000];
-    let resources = resources.expect(&rt, "memory");
+    let rung = count(rt.alloc()).expect(&rt, "memory");
+    let resources = vec![in rt.alloc(); 10_000_000u64, 20_000_000, 30_000_000].expect(
+        &rt, "memory",
+    );
+    let pool = Pool::new(rt.alloc(), resources).ok().expect(&rt, "memory");
     let place = Place {
-        pool: Pool::new(rt.alloc(), resources).ok().expect(&rt, "memory"),
-        rung: count(rt.alloc()).expect(&rt, "memory"),
+        pool,
+        rung,
         leases: AtomicU64::new(0),
-        drains: false,
     };
     on_four_threads(&rt, &place);
-    all_came_back(&rt, place);
-}
-
-fn all_came_back<R: Wait + Abort>(rt: &R, place: Place) {
-    assert!(rt; place.pool.idle(rt) == 3);
-    place.pool.drain(rt);
-    assert!(rt; place.pool.is_drained(rt));
-    let leases = place.leases.load(SeqCst);
-    let resources = place.pool.into_resources().ok();
-    let resources = resources.expect(rt, "a pool that is drained");
+    assert!(rt; place.pool.idle(&rt) == 3);
+    place.pool.drain(&rt);
+    assert!(rt; place.pool.is_drained(&rt));
+    let Place {
+        pool,
+        rung: _,
+        leases,
+    } = place;
+    let leases = leases.load(SeqCst);
+    let resources = pool
+        .into_resources()
+        .ok()
+        .expect(&rt, "a pool that is drained");
     assert!(rt; leases > 0 && added(resources.as_slice()) == Some(leases));
 }
 
 // One thread drains the pool and waits for the end, while three ask until they hear of it.
+fn plays<R: Wait>(rt: &R, place: &Place, thread: u64) -> bool {
+    if thread == 0 {
+        place.pool.drain(rt);
+        return polled_for(rt, place.pool.drained(), &place.rung, 10_000_000).is_some();
+    }
+    asks_often(rt, place, thread);
+    true
+}
+
 #[test]
 fn a_drain_beside_three_who_ask(rt: HostRuntime) {
+    let rung = count(rt.alloc()).expect(&rt, "memory");
     let place = Place {
         pool: pool(&rt, 2),
-        rung: count(rt.alloc()).expect(&rt, "memory"),
+        rung,
         leases: AtomicU64::new(0),
-        drains: true,
     };
-    on_four_threads(&rt, &place);
-    assert!(rt; place.pool.is_drained(&rt) && place.pool.idle(&rt) == 2);
+    let (rt, of) = (&rt, &place);
+    thread::scope(thread::scope_env(), rt, |scope| {
+        for thread in 0..4u64 {
+            if scope.spawn(move || plays(rt, of, thread)).is_err() {
+                plays(rt, of, thread);
+            }
+        }
+    });
+    assert!(rt; place.pool.is_drained(rt) && place.pool.idle(rt) == 2);
 }

@@ -1,5 +1,5 @@
-//! How a program uses the library: most programs of docs/USING.md, which stand here so that the gate proves and runs them.
-//! `docs/check_programs.py` compares.
+//! How a program uses the library: the programs of docs/USING.md and the first of docs/EXECUTORS.md, which stand here
+//! so that the gate proves and runs them. `docs/check_programs.py` compares.
 #![tactic(auto)]
 
 #[cfg(test)]
@@ -8,6 +8,8 @@ mod boxes;
 mod config;
 #[cfg(test)]
 mod first_use;
+#[cfg(test)]
+mod history;
 #[cfg(test)]
 mod hub;
 #[cfg(test)]
@@ -20,6 +22,8 @@ mod orderly_shutdown;
 mod part;
 #[cfg(test)]
 mod permits;
+#[cfg(test)]
+mod pipelines;
 #[cfg(test)]
 mod pool;
 #[cfg(test)]

@@ -42,18 +42,6 @@ impl Part<Settings> for Limit {
     ghost rests = { λ p x y h. λ i. record x { limit = same_value x.limit y h i } };
 }
 
-// Whether a wait has the lock now.
-fn has_lock(lock: &mut MutexCore<Settings, u64>, wait: &mut LockWait, waker: u64) -> bool {
-    matches!(lock.poll_checked(wait, waker), Ok(Turn::Ready(_)))
-}
-
-// Sets the limit, if somebody has the lock.
-fn raise(lock: &mut MutexCore<Settings, u64>, to: u64) {
-    if lock.is_held() {
-        let _raised = with_part_mut(lock.value_mut(), &Limit, |limit: &mut u64| *limit = to);
-    }
-}
-
 // Settings behind a mutex, whose limit is raised by who has the lock.
 #[test]
 fn settings_behind_a_mutex(rt: HostRuntime) {
@@ -63,8 +51,10 @@ fn settings_behind_a_mutex(rt: HostRuntime) {
     };
     let mut lock: MutexCore<Settings, u64> = MutexCore::new(rt.alloc(), settings);
     let mut wait = LockWait::new();
-    assert!(rt; has_lock(&mut lock, &mut wait, 1));
-    raise(&mut lock, 20);
+    assert!(rt; matches!(lock.poll_checked(&mut wait, 1), Ok(Turn::Ready(_))));
+    if lock.is_held() {
+        let _raised = with_part_mut(lock.value_mut(), &Limit, |limit: &mut u64| *limit = 20);
+    }
     lock.unlock_checked();
     let settings = lock.into_inner_checked();
     assert_eq!(rt; settings.name, "mail");
