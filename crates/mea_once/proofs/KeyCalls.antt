@@ -150,10 +150,6 @@ module _ (once : Bool) (e : KeptTable) (f w : ℕ) (x : KeyFuture) (i : ℕ) (s 
     new_caller : tables.caller (key_future_seen x) ≡ future_seen (as_caller x)
     new_caller = λ j. record { cell = x.table; job = Computes x.call.call.init.outcome; polled = (ap is_some of ∙ sym (ap parts.is_polled new_stage.1)) j }
 
-    -- the model's first poll, by what the key has
-    first_is : (h : Tables) (v c : Option ℕ) → get (table_seen e).values x.key ≡ v → get e.current x.key ≡ c → out h ≡ tables.poll once h i f w (key_future_seen x) (table_seen e) None
-    first_is h v c value current = ap (tables.poll once h i f w (key_future_seen x) (table_seen e)) of
-
     module _ (n : ℕ) (now : get e.current x.key ≡ Some n) (r : Round) (there : get e.rounds n ≡ Some r) (idle : runs r.running f ≡ false) where
       abbrev se1 : Entry
       se1 = joined_entry once e f x i s of n now r there

@@ -41,11 +41,6 @@ pub one_less : (s : Entry) → (s.callers == 1) ≡ false → without_caller s �
 one_less s more = ap (λ b. left (record s { listed = s.listed && not (b && is_none s.cell.value) })) more ∙ ap (λ b. left (record s { listed = b })) (and-true s.listed)
     ∙ ap (λ b. cond (b && not s.listed) None (Some (record s { callers = s.callers - 1 }))) more
 
--- it was the last
-pub none_left : (s : Entry) → (s.callers == 1) ≡ true → s.cell.value ≡ None → without_caller s ≡ None
-none_left s last empty = ap (λ o. left (record s { listed = s.listed && not ((s.callers == 1) && is_none o) })) empty ∙ ap (λ b. left (record s { listed = s.listed && not (b && true) })) last ∙ ap (λ b. left (record s { listed = b })) (and-false s.listed)
-    ∙ ap (λ b. cond (b && true) None (Some (record s { callers = s.callers - 1; listed = false }))) last
-
 pub full_left : (s : Entry) (v : ℕ) → s.cell.value ≡ Some v → s.listed ≡ true → without_caller s ≡ Some (record s { callers = s.callers - 1 })
 full_left s v full listed = ap (λ o. left (record s { listed = s.listed && not ((s.callers == 1) && is_none o) })) full ∙ ap (λ b. left (record s { listed = s.listed && not b })) (and-false (s.callers == 1)) ∙ ap (λ b. left (record s { listed = b })) (and-true s.listed)
     ∙ ap (λ b. cond ((s.callers == 1) && not b) None (Some (record s { callers = s.callers - 1 }))) listed ∙ ap (λ b. cond {A = Option Entry} b None (Some (record s { callers = s.callers - 1 }))) (and-false (s.callers == 1))
@@ -290,10 +285,6 @@ module _ (once : Bool) (e : KeptTable) (fs : Names KeyFuture) (kept : AreTogethe
 
     gone_good : AreKept false (cell_of (rested c) run (r.callers - 1)) (callers_of n (remove fs f))
     gone_good = subst (AreKept false (cell_of (rested c) run (r.callers - 1))) (sym (callers_turned fs f n x there (at_round x n) refl None tt)) good
-
-    -- how many others there are
-    pub gone_others : others fs f n ≡ r.callers - 1
-    gone_others = count_callers n (remove fs f) ∙ sym gone_good.tied.futures
 
     gone_round : (b : Bool) → (r.callers == 1) ≡ b → (q : Round) → get e'.rounds n ≡ Some q → IsRound e' (remove fs f) n q × (q.entry ≡ m) × (q.key ≡ x.key)
     gone_round true last q is = absurd (let none : get e'.rounds n ≡ None = here ∙ ap (λ b. cond b None (Some (record r { running = run; callers = r.callers - 1 }))) last in cc)
