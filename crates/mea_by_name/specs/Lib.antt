@@ -1,5 +1,6 @@
 pub mod ByName
 pub mod ByNameLends
+pub mod NameHasher
 pub mod NamedQueue
 pub mod NamedWaker
 pub mod LackingQueue

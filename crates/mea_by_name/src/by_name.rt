@@ -3,6 +3,7 @@ ghost use Rattle.std.specs.Option.{option_copied, option_copied_mut};
 ghost use Rattle.std.specs.Borrow.{sem};
 ghost use Rattle.std.specs.FinMap as map;
 
+use crate::name_hasher::NameHasher;
 use mea_base::NoMemory;
 use std::alloc::Global;
 use std::collections::HashMap;
@@ -11,7 +12,7 @@ use std::marker::Model;
 /// Things by name. Each call costs a look-up in a hashed map.
 #[derive(Drop)]
 pub struct ByName<X> {
-    map: HashMap<u64, X>,
+    map: HashMap<u64, X, NameHasher>,
 }
 
 impl<X> Model for ByName<X> {
@@ -32,7 +33,7 @@ impl<X> ByName<X> {
         ensures { result ≡ map.empty }
     {
         ByName {
-            map: HashMap::new(alloc),
+            map: HashMap::with_hasher(alloc, NameHasher::new()),
         }
     }
 

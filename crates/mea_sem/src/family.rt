@@ -9,6 +9,7 @@ ghost use Rattle.mea_sem.specs.StandsFor.{StandsFor};
 use crate::entries::{EndedEntry, FutureEntry, PermitEntry, SemaphoreEntry};
 use crate::grant::Grant;
 use mea_base::Ready;
+use mea_by_name::NameHasher;
 use mea_events::SemEvent;
 use mea_family::{Answer, Form, Stop};
 use mea_sem_core::SemCore;
@@ -24,11 +25,11 @@ use std::marker::Model;
 #[derive(Drop)]
 pub struct SemFamily {
     pub(crate) alloc: Global,
-    pub(crate) semaphores: HashMap<u64, SemaphoreEntry>,
+    pub(crate) semaphores: HashMap<u64, SemaphoreEntry, NameHasher>,
     // Those of which nothing is left. Room for each is made when the semaphore is.
     pub(crate) ended: Vec<EndedEntry>,
-    pub(crate) futures: HashMap<u64, FutureEntry>,
-    pub(crate) permits: HashMap<u64, PermitEntry>,
+    pub(crate) futures: HashMap<u64, FutureEntry, NameHasher>,
+    pub(crate) permits: HashMap<u64, PermitEntry, NameHasher>,
     pub(crate) next: u128,
 }
 
@@ -55,10 +56,10 @@ impl SemFamily {
     {
         SemFamily {
             alloc,
-            semaphores: HashMap::new(alloc),
+            semaphores: HashMap::with_hasher(alloc, NameHasher::new()),
             ended: Vec::new(alloc),
-            futures: HashMap::new(alloc),
-            permits: HashMap::new(alloc),
+            futures: HashMap::with_hasher(alloc, NameHasher::new()),
+            permits: HashMap::with_hasher(alloc, NameHasher::new()),
             next: 0,
         }
     }
