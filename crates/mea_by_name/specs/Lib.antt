@@ -1,6 +1,8 @@
 pub mod ByName
 pub mod ByNameLends
 pub mod NameHasher
+pub mod Room
+pub mod RoomyLends
 pub mod NamedQueue
 pub mod NamedWaker
 pub mod LackingQueue

@@ -11,6 +11,8 @@ mod lock;
 #[cfg(test)]
 mod meet;
 #[cfg(test)]
+mod names;
+#[cfg(test)]
 mod once;
 #[cfg(test)]
 mod play;

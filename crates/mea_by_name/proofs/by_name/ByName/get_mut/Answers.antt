@@ -1,15 +1,9 @@
-use borrow.Follows.Closed.{read_of}
-use Rattle.std.proofs.Common.{◌≡◌, Option, Some, None, IsSome, MutBor, inl, inr, refl, sym, ap, ◌∙◌}
-use Rattle.std.specs.Option.{ghost_name_of, option_copied_mut}
+use Rattle.std.proofs.Common.{sym, ap, ◌∙◌}
 use Rattle.std.specs.FinMap.{get, insert}
 use Rattle.mea_base.proofs.NamedMaps.{kept-at, named_put}
 use Rattle.mea_by_name.specs.ByName.{kept}
+use Rattle.mea_by_name.proofs.Kept.{agree}
 use Rattle.mea_by_name.proofs.by_name.ByName.get_mut.Goals as goal
-
--- where the two agree at what was borrowed, if anything was, and else in what is left
-agree : {X D : Type 0} (o : Option (MutBor X)) (F G : X → D) (v u : D) → (IsSome (option_copied_mut o) → (w : X) → F w ≡ G w) → v ≡ u → read_of (ghost_name_of o) F v ≡ read_of (ghost_name_of o) G u
-agree None F G v u there other = ap inr other
-agree (Some x) F G v u there other = λ t. inl (x.ghost_name, λ w. there refl w t)
 
 pub returns : goal.returns
 returns g c = (

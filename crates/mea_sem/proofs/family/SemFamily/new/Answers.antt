@@ -7,10 +7,10 @@ use Rattle.mea_sem.proofs.family.SemFamily.new.Goals as goal
 
 pub invariant_of-result : goal.invariant_of-result
 invariant_of-result c =
-    own (kept_empty (with_ended c.new.result.entries c.new-2.result.items) c.new-3.result.entries c.new-4.result.entries 0
-    (λ j. with_ended (c.new.ensures.empty j) (c.new-2.ensures.items j)) c.new-3.ensures.empty c.new-4.ensures.empty)
+    own (kept_empty (with_ended c.with_hasher.result.entries c.new-2.result.items) c.with_hasher-2.result.entries c.with_hasher-3.result.entries 0
+    (λ j. with_ended (c.with_hasher.ensures.empty j) (c.new-2.ensures.items j)) c.with_hasher-2.ensures.empty c.with_hasher-3.ensures.empty)
 
 pub returns : goal.returns
 returns c =
-    ap part_of (seen_empty (with_ended c.new.result.entries c.new-2.result.items) c.new-3.result.entries c.new-4.result.entries []
-    (λ j. with_ended (c.new.ensures.empty j) (c.new-2.ensures.items j)) c.new-3.ensures.empty c.new-4.ensures.empty refl)
+    ap part_of (seen_empty (with_ended c.with_hasher.result.entries c.new-2.result.items) c.with_hasher-2.result.entries c.with_hasher-3.result.entries []
+    (λ j. with_ended (c.with_hasher.ensures.empty j) (c.new-2.ensures.items j)) c.with_hasher-2.ensures.empty c.with_hasher-3.ensures.empty refl)
