@@ -7,13 +7,13 @@ use Rattle.mea_by_name.specs.declared.name_hasher.NameHasher.{NameHasher}
 abbrev pub name_read : NameHasher → List ℕ → NameHasher
 name_read h bytes = if nat_eq (length bytes) 8 then record { name = from_le_bytes w64 bytes } else h
 
--- a number with its bits from the n-th on folded into its lowest
+-- a number with its bits from the `by`-th on folded into its lowest
 abbrev pub folded : ℕ → ℕ → ℕ
-folded n x = bit_xor x (x / 2 ^ n)
+folded by x = bit_xor x (x / 2 ^ by)
 
 -- the place of a name: four names that follow each other have one, and it has 24 bits
 abbrev pub name_place : ℕ → ℕ
-name_place name = bit_and (folded 14 (folded 9 (folded 4 (name / 4)))) 0xff_ffff
+name_place name = bit_and (folded 29 (folded 14 (folded 9 (folded 4 (name / 4))))) 0xff_ffff
 
 -- the tag of a name, in eight bits
 abbrev pub name_tag : ℕ → ℕ

@@ -1,4 +1,5 @@
-ghost use Rattle.mea_by_name.specs.NameHasher.{name_read, name_hash};
+ghost use Rattle.std.specs.Prelude.{◌≡◌, ◌<◌};
+ghost use Rattle.mea_by_name.specs.NameHasher.{name_read, name_hash, folded};
 
 use std::hash::{BuildHasher, Hasher};
 
@@ -22,6 +23,15 @@ impl NameHasher {
     }
 }
 
+// A number with its bits from the `by`-th on folded into its lowest.
+#[inline(always)]
+fn folded(x: u64, by: u32) -> u64
+    requires { by < 64 }
+    ensures { result ≡ folded by x }
+{
+    x ^ x >> by
+}
+
 impl Hasher for NameHasher {
     ghost write = { name_read };
 
@@ -31,9 +41,7 @@ impl Hasher for NameHasher {
     #[inline(always)]
     fn finish(&self) -> u64 {
         let four = self.name >> 2;
-        let near = four ^ four >> 4;
-        let far = near ^ near >> 9;
-        let place = far ^ far >> 14;
+        let place = folded(folded(folded(folded(four, 4), 9), 14), 29);
         let tag = self.name.wrapping_mul(SPREAD) >> 56;
         tag << 24 | place & 0xff_ffff
     }
@@ -46,6 +54,11 @@ impl Hasher for NameHasher {
                 bytes[0], bytes[1], bytes[2], bytes[3], bytes[4], bytes[5], bytes[6], bytes[7],
             ]);
         }
+    }
+
+    #[inline(always)]
+    fn write_u64(&mut self, name: u64) {
+        self.name = name;
     }
 }
 

@@ -12,7 +12,7 @@ use Rattle.mea_share_core.specs.Share.{Share, IsWaiting, taken, queued, left, re
 use Rattle.mea_share_core.specs.Groups.{share_in, Sets}
 use Rattle.mea_share_core.specs.Fair.{Fair, IsSettled, IsSame, share_of, waiters_of, Becomes, GivesBack, Belongs, Cancels}
 use Rattle.mea_share_core.proofs.Numbered.{n_new}
-use Rattle.mea_job_core.specs.Room.{Room}
+use Rattle.mea_by_name.specs.Room.{Room}
 use Rattle.mea_job_core.specs.Waiting.{Waiting}
 use Rattle.mea_job_core.specs.Work.{Submission, next_of}
 use Rattle.mea_job_core.specs.Tied.{submission_of, submissions, waker_at, AreTied, IsFair, Asks, IsAdmittedJob, StartsJob, EndsBy}

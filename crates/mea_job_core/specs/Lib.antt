@@ -1,4 +1,3 @@
-pub mod Room
 pub mod Waiting
 pub mod Work
 pub mod Tied

@@ -7,7 +7,7 @@ use Rattle.mea_share_core.specs.declared.share_acquire.ShareStage.TheVariants.{Q
 use Rattle.mea_share_core.specs.Share.{Share, IsAdmitted, queued, readied}
 use Rattle.mea_share_core.specs.Groups.{share_in, waiting_in, AreNumbered}
 use Rattle.mea_share_core.specs.Fair.{Fair, IsSettled, share_of, Becomes}
-use Rattle.mea_job_core.specs.Room.{Room}
+use Rattle.mea_by_name.specs.Room.{Room}
 use Rattle.mea_job_core.specs.Waiting.{Waiting}
 use Rattle.mea_job_core.specs.Work.{Submission, Work, running_of, next_of}
 

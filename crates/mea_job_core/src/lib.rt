@@ -10,7 +10,6 @@ mod counts;
 mod finish_error;
 mod job_core;
 mod laws;
-mod roomy;
 mod start;
 mod submit_error;
 mod unknown_job;

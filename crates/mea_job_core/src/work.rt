@@ -5,10 +5,10 @@ ghost use Rattle.mea_job_core.specs.Work.{new_work, free_of, start_of, accepted,
 ghost use Rattle.mea_job_core.specs.Tied.{submissions, IsFair, Asks, IsAdmittedJob, StartsJob, EndsJob};
 
 use crate::by_order::ByOrder;
-use crate::roomy::Roomy;
 use crate::start::Start;
 use crate::waiting_job::WaitingJob;
 use mea_base::NoMemory;
+use mea_by_name::Roomy;
 use mea_share_core::{FairCore, ShareAcquire, ShareFault, SharedKey};
 use std::alloc::Global;
 use std::hash::{BuildHasherDefault, FoldHasher};

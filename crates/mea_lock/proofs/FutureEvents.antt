@@ -179,18 +179,10 @@ module _ {old : Part Locks} {i : ℕ} (s : Site old i) where
     until_as : (w : ℕ) (until : Until) (o : Outcome Locks) → model.poll_until (locks_seen s.ls s.fs s.gs) i f w until (future_seen x) (lock_seen e) ≡ o → act_in (locks_seen s.ls s.fs s.gs) i (PollUntil f w until) ≡ o
     until_as w until o is = found_is _ (locks_seen s.ls s.fs s.gs) _ (future_seen x) (seen-at future_seen s.fs f x future) ∙ (found_lock s) x.lock e there (model.poll_until (locks_seen s.ls s.fs s.gs) i f w until (future_seen x)) ∙ is
 
-    -- the guard that was made first is gone again
-    unmade : (gs' : Names GuardEntry) → gs' ≡ insert s.gs i guard_made → remove gs' i ≡ s.gs
-    unmade gs' is = ap (λ gs. remove gs i) is ∙ put_gone s.gs i guard_made ∙ gone_none s.gs i (no_guard s)
-
     -- a poll that found no memory has changed nothing
     pub undone : (e' : KeptLock) (x' : KeptFuture) (gs' : Names GuardEntry) → e' ≡ e → x' ≡ x → gs' ≡ s.gs
         → (AreKeptLocks (insert s.ls x.lock e') (insert s.fs f x') gs' s.next) × (part_of (insert s.ls x.lock e') (insert s.fs f x') gs' s.next ≡ old)
     undone e' x' gs' same alike still = rw (same, alike, still, insert_same s.ls x.lock e there, insert_same s.fs f x future) (s.kept, s.view)
-
-    pub undone_after : (e' : KeptLock) (x' : KeptFuture) (gs' gs'' : Names GuardEntry) → e' ≡ e → x' ≡ x → gs' ≡ insert s.gs i guard_made → gs'' ≡ remove gs' i
-        → (AreKeptLocks (insert s.ls x.lock e') (insert s.fs f x') gs'' s.next) × (part_of (insert s.ls x.lock e') (insert s.fs f x') gs'' s.next ≡ old)
-    undone_after e' x' gs' gs'' same alike made gone = undone e' x' gs'' same alike (gone ∙ unmade gs' made)
 
     module _ (waits_now : x.holds ≡ false) (w : ℕ) (e' : KeptLock) (x' : KeptFuture) (before after : Waking ℕ) where
       module _ (k : NamedWaker) (polled : Polled e f x w (Ready k) e' x' before after) where
@@ -292,9 +284,9 @@ module _ {old : Part Locks} {i : ℕ} (s : Site old i) where
             (again : waits (who (names_in e.lock.permits.queue)) f ≡ true → act_in (locks_seen s.ls s.fs s.gs) i a ≡ model.waits_on (locks_seen s.ls s.fs s.gs) f w (future_seen x) (lock_seen e))
             (first : waits (who (names_in e.lock.permits.queue)) f ≡ false → is_polled x.wait ≡ false → nat_lt e.lock.permits.free (share_of e.lock (is_write x.wait)) ≡ true
             → act_in (locks_seen s.ls s.fs s.gs) i a ≡ model.queues (locks_seen s.ls s.fs s.gs) f w (future_seen x) (lock_seen e)) where
-          pended_by : (gs' gs'' : Names GuardEntry) → gs' ≡ insert s.gs i guard_made → gs'' ≡ remove gs' i
-              → (AreKeptLocks (insert s.ls x.lock e') (insert s.fs f x') gs'' (i + 1)) × PartYields registered old i (act_in old.hall i a) answers.Pending (part_of (insert s.ls x.lock e') (insert s.fs f x') gs'' (i + 1)) before after
-          pended_by gs' gs'' made gone = rw (entry_still, polled.future, gone ∙ unmade gs' made) (
+          pended_by : (gs' : Names GuardEntry) → gs' ≡ s.gs
+              → (AreKeptLocks (insert s.ls x.lock e') (insert s.fs f x') gs' (i + 1)) × PartYields registered old i (act_in old.hall i a) answers.Pending (part_of (insert s.ls x.lock e') (insert s.fs f x') gs' (i + 1)) before after
+          pended_by gs' still = rw (entry_still, polled.future, still) (
             pending_kept,
             elim its_pending.seen [
               | inl on ↦ pending_as a _ (seen future_seen s.fs) on.1 (seen-alike future_seen s.fs f x waiting_on future (future_as (is_polled x.wait) on.2 ∙ same_future)) (again on.0)
@@ -303,13 +295,13 @@ module _ {old : Part Locks} {i : ℕ} (s : Site old i) where
             ],
           )
 
-        pub pended : (gs' gs'' : Names GuardEntry) → gs' ≡ insert s.gs i guard_made → gs'' ≡ remove gs' i
-            → (AreKeptLocks (insert s.ls x.lock e') (insert s.fs f x') gs'' (i + 1)) × PartYields registered old i (act_in old.hall i (Poll f w)) answers.Pending (part_of (insert s.ls x.lock e') (insert s.fs f x') gs'' (i + 1)) before after
+        pub pended : (gs' : Names GuardEntry) → gs' ≡ s.gs
+            → (AreKeptLocks (insert s.ls x.lock e') (insert s.fs f x') gs' (i + 1)) × PartYields registered old i (act_in old.hall i (Poll f w)) answers.Pending (part_of (insert s.ls x.lock e') (insert s.fs f x') gs' (i + 1)) before after
         pended = pended_by (Poll f w) (λ on. polls_as w _ (if_true _ _ _ on))
             (λ apart new few. polls_as w _ (if_false _ _ _ apart ∙ if_false _ _ _ (polled_by x.holds (is_polled x.wait) waits_now new) ∙ if_true _ _ _ few))
 
-        pub pended_until : (until : Until) (gs' gs'' : Names GuardEntry) → gs' ≡ insert s.gs i guard_made → gs'' ≡ remove gs' i
-            → (AreKeptLocks (insert s.ls x.lock e') (insert s.fs f x') gs'' (i + 1)) × PartYields registered old i (act_in old.hall i (PollUntil f w until)) answers.Pending (part_of (insert s.ls x.lock e') (insert s.fs f x') gs'' (i + 1)) before after
+        pub pended_until : (until : Until) (gs' : Names GuardEntry) → gs' ≡ s.gs
+            → (AreKeptLocks (insert s.ls x.lock e') (insert s.fs f x') gs' (i + 1)) × PartYields registered old i (act_in old.hall i (PollUntil f w until)) answers.Pending (part_of (insert s.ls x.lock e') (insert s.fs f x') gs' (i + 1)) before after
         pended_until until = pended_by (PollUntil f w until) (λ on. until_as w until _ (if_true _ _ _ on))
             (λ apart new few. until_as w until _ (if_false _ _ _ apart ∙ if_false _ _ _ (polled_by x.holds (is_polled x.wait) waits_now new) ∙ if_true _ _ _ few))
 
@@ -458,8 +450,8 @@ module _ {old : Part Locks} {i : ℕ} (s : Site old i) where
               laid w until held_lock e' holder_now x' _ handed_good (get-there (remove (own of_future x.lock s.fs) f) f holder_now) (put_over (own of_future x.lock s.fs)) refl refl refl (condvar_writes condvar) out l before between after given settled_is fresh is polled_first.wakers counted,
             )
 
-      pub until_lays : (gs' gs'' : Names GuardEntry) → gs' ≡ insert s.gs i guard_made → gs'' ≡ remove gs' i → (was_polled (get (seen future_seen (insert s.fs f x')) f) ≡ false) × Until_yields w until answers.Pending e' (insert s.fs f x') gs'' before after
-      until_lays gs' gs'' made gone = rw (gone ∙ unmade gs' made) (at x.holds refl)
+      pub until_lays : (gs' : Names GuardEntry) → gs' ≡ s.gs → (was_polled (get (seen future_seen (insert s.fs f x')) f) ≡ false) × Until_yields w until answers.Pending e' (insert s.fs f x') gs' before after
+      until_lays gs' still = rw still (at x.holds refl)
         where
           at : (b : Bool) → x.holds ≡ b → Laid
           at true holds = lays_holding holds

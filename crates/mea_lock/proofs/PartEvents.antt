@@ -434,11 +434,11 @@ module _ {old : Part Locks} {i : ℕ} (s : Site old i) where
                 (seen-insert lock_seen s.ls o (begun taken_now plain)) refl (seen-insert guard_seen s.gs i taker) refl (omega (arith, counted)),
           )
 
-      pub try_lacks : e.lock.permits.free < share_of e.lock write → (gs' : Names GuardEntry) → gs' ≡ insert s.gs i taker
-          → (AreKeptLocks (insert s.ls o e) s.fs (remove gs' i) (i + 1)) × PartRests registered old i (act_in old.hall i (Try o plain write)) answers.Lacking (part_of (insert s.ls o e) s.fs (remove gs' i) (i + 1))
+      pub try_lacks : e.lock.permits.free < share_of e.lock write → (gs' : Names GuardEntry) → gs' ≡ s.gs
+          → (AreKeptLocks (insert s.ls o e) s.fs gs' (i + 1)) × PartRests registered old i (act_in old.hall i (Try o plain write)) answers.Lacking (part_of (insert s.ls o e) s.fs gs' (i + 1))
       try_lacks few gs' is =
           let is_few : nat_lt e.lock.permits.free (share_of e.lock write) ≡ true = grind (arith, nat_tests, few) in
-          rw (is, put_gone s.gs i taker, gone_none s.gs i no_guard, insert_same s.ls o e there) (
+          rw (is, insert_same s.ls o e there) (
             rests,
             rests_as (λ h. act_in h i (Try o plain write)) _ answers.Lacking s.ls s.fs s.gs (found_lock _ ∙ if_true _ _ _ is_few) refl refl refl refl refl refl,
           )

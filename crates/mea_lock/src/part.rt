@@ -22,7 +22,7 @@ use crate::guard_entry::GuardEntry;
 use crate::lock_core::{LockCore, LoweredCore};
 use crate::until::{Asked, Until};
 use mea_base::{NoMemory, Ready, Turn};
-use mea_by_name::ByName;
+use mea_by_name::{ByName, Roomy};
 use mea_family::{Answer, Form, Stop, borrowed_if, unknown_unless, zero_if};
 use std::alloc::Global;
 use std::marker::Model;
@@ -35,7 +35,7 @@ use std::marker::Model;
 pub struct LockPart<C: LockCore> {
     locks: ByName<LockEntry<C>>,
     futures: ByName<FutureEntry<C>>,
-    guards: ByName<GuardEntry>,
+    guards: Roomy<GuardEntry>,
     next: u128,
     alloc: Global,
 }
@@ -50,9 +50,9 @@ impl<C: LockCore> Model for LockPart<C> {
 
     ghost use Rattle.mea_lock.specs.Parts.{locks_seen, AreKeptLocks};
 
-    ghost view = { λ a. record { hall = locks_seen a.locks a.futures a.guards; next = a.next } };
+    ghost view = { λ a. record { hall = locks_seen a.locks a.futures a.guards.things; next = a.next } };
 
-    ghost invariant = { λ a. AreKeptLocks a.locks a.futures a.guards a.next };
+    ghost invariant = { λ a. AreKeptLocks a.locks a.futures a.guards.things a.next };
 }
 
 impl<C: LockCore> LockPart<C> {
@@ -63,7 +63,7 @@ impl<C: LockCore> LockPart<C> {
         LockPart {
             locks: ByName::new(alloc),
             futures: ByName::new(alloc),
-            guards: ByName::new(alloc),
+            guards: Roomy::new(alloc),
             next: 0,
             alloc,
         }
@@ -265,20 +265,17 @@ impl<C: LockCore> LockPart<C> {
         }
         let guard = future.guard();
         let entry = self.locks.at_mut(guard.lock);
-        let Ok(()) = self.guards.insert(number, guard) else {
+        let Ok(()) = self.guards.reserve(1) else {
             return Err(Stop::NoMemory);
         };
         match entry.poll(f, future, waker, ready) {
-            Err(_) => {
-                let _ = self.guards.remove(number);
-                Err(Stop::NoMemory)
-            }
+            Err(_) => Err(Stop::NoMemory),
             Ok(Turn::Pending) => {
-                let _ = self.guards.remove(number);
                 self.next = number as u128 + 1;
                 Ok(Answer::Pending)
             }
             Ok(Turn::Ready(_)) => {
+                self.guards.insert(number, guard);
                 let _ = self.futures.remove(f);
                 self.next = number as u128 + 1;
                 Ok(Answer::Ready)
@@ -327,33 +324,29 @@ impl<C: LockCore> LockPart<C> {
         let future = self.futures.at_mut(f);
         let guard = future.guard();
         let entry = self.locks.at_mut(guard.lock);
-        let Ok(()) = self.guards.insert(number, guard) else {
+        let Ok(()) = self.guards.reserve(1) else {
             return Err(NoMemory);
         };
         match entry.poll_until(f, future, waker, until, ready) {
-            Err(_) => {
-                let _ = self.guards.remove(number);
-                Err(NoMemory)
-            }
+            Err(_) => Err(NoMemory),
             Ok(Asked::Ready) => {
+                self.guards.insert(number, guard);
                 let _ = self.futures.remove(f);
                 self.next = number as u128 + 1;
                 Ok(Asked::Ready)
             }
             Ok(Asked::Asks) => {
-                let _ = self.guards.remove(number);
                 self.next = number as u128 + 1;
                 Ok(Asked::Asks)
             }
             Ok(Asked::Lays) => {
-                let _ = self.guards.remove(number);
                 self.next = number as u128 + 1;
                 Ok(Asked::Lays)
             }
         }
     }
 
-    // Makes a guard where its permits are free. On an error nothing has changed.
+    // Makes a guard where its permits are free. Room for it is made first. On an error nothing has changed.
     fn try_lock(&mut self, number: u64, o: u64, form: Form, access: Access) -> Result<Answer, Stop>
         requires next { self.old.next ≤ number }
         requires writes { C.is_only_written ≡ true → writes access ≡ true }
@@ -364,21 +357,21 @@ impl<C: LockCore> LockPart<C> {
         }
         let plain = form.is_plain();
         let write = access.writes();
-        let guard = GuardEntry {
-            lock: o,
-            plain,
-            writes: write,
-        };
-        let Ok(()) = self.guards.insert(number, guard) else {
+        let Ok(()) = self.guards.reserve(1) else {
             return Err(Stop::NoMemory);
         };
         let entry = self.locks.at_mut(o);
         if entry.try_lock(write) {
             entry.begin(plain);
+            let guard = GuardEntry {
+                lock: o,
+                plain,
+                writes: write,
+            };
+            self.guards.insert(number, guard);
             self.next = number as u128 + 1;
             return Ok(Answer::Held);
         }
-        let _ = self.guards.remove(number);
         self.next = number as u128 + 1;
         Ok(Answer::Lacking)
     }

@@ -13,7 +13,7 @@ use crate::poll_reply::PollReply;
 use crate::round::Round;
 use crate::table_core::{TableCore, ValueCore};
 use mea_base::{NoMemory, Poll, Ready};
-use mea_by_name::{ByName, NamedWaker};
+use mea_by_name::{ByName, NamedWaker, Roomy};
 use mea_family::Answer;
 use mea_once_core::{CellStage, KeyStage};
 use mea_once_model::Initialiser;
@@ -34,7 +34,7 @@ const PENDING: PollReply = PollReply {
 pub struct TableEntry<C: TableCore> {
     core: C,
     // The current round of each key that is being computed, and all rounds.
-    current: ByName<u64>,
+    current: Roomy<u64>,
     rounds: ByName<Round>,
     // How many futures it has.
     futures: u128,
@@ -47,7 +47,7 @@ impl<C: TableCore> Model for TableEntry<C> {
 
     ghost coded = { kept_table_code };
 
-    ghost view = { λ e. record { keyed = C.seen_as e.core; current = e.current; rounds = e.rounds; futures = e.futures } };
+    ghost view = { λ e. record { keyed = C.seen_as e.core; current = e.current.things; rounds = e.rounds; futures = e.futures } };
 }
 
 impl<C: TableCore> TableEntry<C> {
@@ -60,7 +60,7 @@ impl<C: TableCore> TableEntry<C> {
     {
         TableEntry {
             core,
-            current: ByName::new(alloc),
+            current: Roomy::new(alloc),
             rounds: ByName::new(alloc),
             futures: 0,
         }
@@ -173,21 +173,20 @@ impl<C: TableCore> TableEntry<C> {
         *round
     }
 
-    // A new round is the key's current one, and is told. On an error nothing has changed.
+    // A new round is the key's current one, and is told. Room for it there is made first. On an error nothing has changed.
     fn open(&mut self, number: u64, key: u64) -> Result<Round, NoMemory>
-        requires { get self.old.rounds number ≡ None }
         ensures ok { IfOk result (λ r. (r ≡ new_round key)
             × (self.new ≡ record self.old { rounds = insert self.old.rounds number (new_round key); current = insert self.old.current key number })) }
         ensures err { OnErr result (self.new ≡ self.old) }
     {
+        let Ok(()) = self.current.reserve(1) else {
+            return Err(NoMemory);
+        };
         let round = Round::new(key);
         let Ok(()) = self.rounds.insert(number, round) else {
             return Err(NoMemory);
         };
-        let Ok(()) = self.current.insert(key, number) else {
-            let _ = self.rounds.remove(number);
-            return Err(NoMemory);
-        };
+        self.current.insert(key, number);
         Ok(round)
     }
 

@@ -30,13 +30,13 @@ enter-requires-clause-few g c = λ n r there. enter_few g.C.TableCore.is_once c.
 
 pub overflow_add-more : goal.overflow_add-more
 overflow_add-more g c =
-    let enters : Enters c.args.self.now c.args.number c.args.future.now c.in-Ok-enter.n (record { keyed = g.C.TableCore.seen_as c.self.inside.core; current = c.self.inside.current; rounds = c.self.inside.rounds; futures = c.self.inside.futures }) = subst (Enters c.args.self.now c.args.number c.args.future.now c.in-Ok-enter.n) (sym c.self.view_is) c.in-Ok-enter.ensures.enters in
+    let enters : Enters c.args.self.now c.args.number c.args.future.now c.in-Ok-enter.n (record { keyed = g.C.TableCore.seen_as c.self.inside.core; current = c.self.inside.current.things; rounds = c.self.inside.rounds; futures = c.self.inside.futures }) = subst (Enters c.args.self.now c.args.number c.args.future.now c.in-Ok-enter.n) (sym c.self.view_is) c.in-Ok-enter.ensures.enters in
     let it = entered_so g.C.TableCore.is_once c.args.self.now c.args.f c.args.waker c.args.future.now c.args.number c.requires.stands c.in-Ok-enter.n _ enters c.in-Ok-enter.round (ap (λ (e : KeptTable). get e.rounds c.in-Ok-enter.n) c.self.view_is ∙ c.in-Ok-enter.ensures.round) in
     omega (arith, it.kept, c.requires.room, c.keeps-more.ensures, ap (λ (e : KeptTable). waiting_in e.keyed.table.slots) c.self.view_is, ap (λ (r : Waking ℕ). r.registered) c.in-Ok.ensures.ok, c.registered-room.ensures)
 
 pub poll-requires : goal.poll-requires
 poll-requires g c =
-    let enters : Enters c.args.self.now c.args.number c.args.future.now c.in-Ok-enter.n (record { keyed = g.C.TableCore.seen_as c.self.inside.core; current = c.self.inside.current; rounds = c.self.inside.rounds; futures = c.self.inside.futures }) = subst (Enters c.args.self.now c.args.number c.args.future.now c.in-Ok-enter.n) (sym c.self.view_is) c.in-Ok-enter.ensures.enters in
+    let enters : Enters c.args.self.now c.args.number c.args.future.now c.in-Ok-enter.n (record { keyed = g.C.TableCore.seen_as c.self.inside.core; current = c.self.inside.current.things; rounds = c.self.inside.rounds; futures = c.self.inside.futures }) = subst (Enters c.args.self.now c.args.number c.args.future.now c.in-Ok-enter.n) (sym c.self.view_is) c.in-Ok-enter.ensures.enters in
     let it = entered_so g.C.TableCore.is_once c.args.self.now c.args.f c.args.waker c.args.future.now c.args.number c.requires.stands c.in-Ok-enter.n _ enters c.in-Ok-enter.round (ap (λ (e : KeptTable). get e.rounds c.in-Ok-enter.n) c.self.view_is ∙ c.in-Ok-enter.ensures.round) in
     record { may = subst (λ (k : NamedKeyed). MayPollKey nat_eq k c.args.future.now.call) (sym it.keyed) (may_poll_key g.C.TableCore.is_once c.args.self.now c.args.f c.args.future.now c.args.number c.requires.stands) }
 
@@ -45,13 +45,13 @@ undo-requires-clause-there g c = ap is_some (ap (λ (e : KeptTable). get e.round
 
 pub undo-requires-clause-some : goal.undo-requires-clause-some
 undo-requires-clause-some g c =
-    let enters : Enters c.args.self.now c.args.number c.args.future.now c.in-Ok-enter.n (record { keyed = g.C.TableCore.seen_as c.self.inside.core; current = c.self.inside.current; rounds = c.self.inside.rounds; futures = c.self.inside.futures }) = subst (Enters c.args.self.now c.args.number c.args.future.now c.in-Ok-enter.n) (sym c.self.view_is) c.in-Ok-enter.ensures.enters in
+    let enters : Enters c.args.self.now c.args.number c.args.future.now c.in-Ok-enter.n (record { keyed = g.C.TableCore.seen_as c.self.inside.core; current = c.self.inside.current.things; rounds = c.self.inside.rounds; futures = c.self.inside.futures }) = subst (Enters c.args.self.now c.args.number c.args.future.now c.in-Ok-enter.n) (sym c.self.view_is) c.in-Ok-enter.ensures.enters in
     let it = entered_so g.C.TableCore.is_once c.args.self.now c.args.f c.args.waker c.args.future.now c.args.number c.requires.stands c.in-Ok-enter.n _ enters c.in-Ok-enter.round (ap (λ (e : KeptTable). get e.rounds c.in-Ok-enter.n) c.self.view_is ∙ c.in-Ok-enter.ensures.round) in
     it.some
 
 pub returns-in_default-poll-clause-err : goal.returns-in_default-poll-clause-err
 returns-in_default-poll-clause-err g c =
-    let enters : Enters c.args.self.now c.args.number c.args.future.now c.in-Ok-enter.n (record { keyed = g.C.TableCore.seen_as c.self.inside.core; current = c.self.inside.current; rounds = c.self.inside.rounds; futures = c.self.inside.futures }) = subst (Enters c.args.self.now c.args.number c.args.future.now c.in-Ok-enter.n) (sym c.self.view_is) c.in-Ok-enter.ensures.enters in
+    let enters : Enters c.args.self.now c.args.number c.args.future.now c.in-Ok-enter.n (record { keyed = g.C.TableCore.seen_as c.self.inside.core; current = c.self.inside.current.things; rounds = c.self.inside.rounds; futures = c.self.inside.futures }) = subst (Enters c.args.self.now c.args.number c.args.future.now c.in-Ok-enter.n) (sym c.self.view_is) c.in-Ok-enter.ensures.enters in
     let same = undone g.C.TableCore.is_once c.args.self.now c.args.f c.args.waker c.args.future.now c.args.number c.requires.stands (g.C.TableCore.seen_as c.poll.new.self) c.in-Ok-enter.n _ enters c.in-Ok-enter.round (ap (λ (e : KeptTable). get e.rounds c.in-Ok-enter.n) c.self.view_is ∙ c.in-Ok-enter.ensures.round) c.in_default-poll.ensures.err.0 in (
       subst (IsSameTable c.args.self.now) (sym c.undo.ensures) same,
       (λ i. record { table = c.args.future.now.table; key = c.args.future.now.key; round = c.args.future.now.round; call = c.in_default-poll.ensures.err.1 i }),
@@ -63,19 +63,19 @@ follow-told-requires-clause-there g c = ap is_some (ap (λ (e : KeptTable). get 
 
 pub follow-told-requires-clause-some : goal.follow-told-requires-clause-some
 follow-told-requires-clause-some g c =
-    let enters : Enters c.args.self.now c.args.number c.args.future.now c.in-Ok-enter.n (record { keyed = g.C.TableCore.seen_as c.self.inside.core; current = c.self.inside.current; rounds = c.self.inside.rounds; futures = c.self.inside.futures }) = subst (Enters c.args.self.now c.args.number c.args.future.now c.in-Ok-enter.n) (sym c.self.view_is) c.in-Ok-enter.ensures.enters in
+    let enters : Enters c.args.self.now c.args.number c.args.future.now c.in-Ok-enter.n (record { keyed = g.C.TableCore.seen_as c.self.inside.core; current = c.self.inside.current.things; rounds = c.self.inside.rounds; futures = c.self.inside.futures }) = subst (Enters c.args.self.now c.args.number c.args.future.now c.in-Ok-enter.n) (sym c.self.view_is) c.in-Ok-enter.ensures.enters in
     let it = entered_so g.C.TableCore.is_once c.args.self.now c.args.f c.args.waker c.args.future.now c.args.number c.requires.stands c.in-Ok-enter.n _ enters c.in-Ok-enter.round (ap (λ (e : KeptTable). get e.rounds c.in-Ok-enter.n) c.self.view_is ∙ c.in-Ok-enter.ensures.round) in
     it.some
 
 pub follow-told-requires-clause-futures : goal.follow-told-requires-clause-futures
 follow-told-requires-clause-futures g c =
-    let enters : Enters c.args.self.now c.args.number c.args.future.now c.in-Ok-enter.n (record { keyed = g.C.TableCore.seen_as c.self.inside.core; current = c.self.inside.current; rounds = c.self.inside.rounds; futures = c.self.inside.futures }) = subst (Enters c.args.self.now c.args.number c.args.future.now c.in-Ok-enter.n) (sym c.self.view_is) c.in-Ok-enter.ensures.enters in
+    let enters : Enters c.args.self.now c.args.number c.args.future.now c.in-Ok-enter.n (record { keyed = g.C.TableCore.seen_as c.self.inside.core; current = c.self.inside.current.things; rounds = c.self.inside.rounds; futures = c.self.inside.futures }) = subst (Enters c.args.self.now c.args.number c.args.future.now c.in-Ok-enter.n) (sym c.self.view_is) c.in-Ok-enter.ensures.enters in
     let it = entered_so g.C.TableCore.is_once c.args.self.now c.args.f c.args.waker c.args.future.now c.args.number c.requires.stands c.in-Ok-enter.n _ enters c.in-Ok-enter.round (ap (λ (e : KeptTable). get e.rounds c.in-Ok-enter.n) c.self.view_is ∙ c.in-Ok-enter.ensures.round) in
     omega (arith, it.futures, some_futures g.C.TableCore.is_once c.args.self.now c.args.f c.args.future.now c.args.number c.requires.stands)
 
 pub hand_on-requires-clause-fits : goal.hand_on-requires-clause-fits
 hand_on-requires-clause-fits g c =
-    let enters : Enters c.args.self.now c.args.number c.args.future.now c.in-Ok-enter.n (record { keyed = g.C.TableCore.seen_as c.self.inside.core; current = c.self.inside.current; rounds = c.self.inside.rounds; futures = c.self.inside.futures }) = subst (Enters c.args.self.now c.args.number c.args.future.now c.in-Ok-enter.n) (sym c.self.view_is) c.in-Ok-enter.ensures.enters in
+    let enters : Enters c.args.self.now c.args.number c.args.future.now c.in-Ok-enter.n (record { keyed = g.C.TableCore.seen_as c.self.inside.core; current = c.self.inside.current.things; rounds = c.self.inside.rounds; futures = c.self.inside.futures }) = subst (Enters c.args.self.now c.args.number c.args.future.now c.in-Ok-enter.n) (sym c.self.view_is) c.in-Ok-enter.ensures.enters in
     let it = entered_so g.C.TableCore.is_once c.args.self.now c.args.f c.args.waker c.args.future.now c.args.number c.requires.stands c.in-Ok-enter.n _ enters c.in-Ok-enter.round (ap (λ (e : KeptTable). get e.rounds c.in-Ok-enter.n) c.self.view_is ∙ c.in-Ok-enter.ensures.round) in
     let done = polls_any g.C.TableCore.is_once c.args.self.now c.args.f c.args.waker c.args.future.now c.args.number c.requires.stands (idle_where g.C.TableCore.is_once c.args.self.now c.args.f c.args.waker c.args.future.now c.args.number c.requires.stands c.own_round-own.result c.own_round-own.ensures (sym c.runs.ensures ∙ c.if-runs.false)) (g.C.TableCore.seen_as c.poll.new.self) c.poll.new.call c.in-Ok-poll.answer c.follow-told.result c.follow-told.new.self c.follow-told.new.future
     c.in-Ok-enter.n _ enters c.in-Ok-enter.round (ap (λ (e : KeptTable). get e.rounds c.in-Ok-enter.n) c.self.view_is ∙ c.in-Ok-enter.ensures.round) c.in-Ok-poll.ensures.polls c.follow-told.ensures in
@@ -83,13 +83,13 @@ hand_on-requires-clause-fits g c =
 
 pub hand_on-requires-clause-room : goal.hand_on-requires-clause-room
 hand_on-requires-clause-room g c =
-    let enters : Enters c.args.self.now c.args.number c.args.future.now c.in-Ok-enter.n (record { keyed = g.C.TableCore.seen_as c.self.inside.core; current = c.self.inside.current; rounds = c.self.inside.rounds; futures = c.self.inside.futures }) = subst (Enters c.args.self.now c.args.number c.args.future.now c.in-Ok-enter.n) (sym c.self.view_is) c.in-Ok-enter.ensures.enters in
+    let enters : Enters c.args.self.now c.args.number c.args.future.now c.in-Ok-enter.n (record { keyed = g.C.TableCore.seen_as c.self.inside.core; current = c.self.inside.current.things; rounds = c.self.inside.rounds; futures = c.self.inside.futures }) = subst (Enters c.args.self.now c.args.number c.args.future.now c.in-Ok-enter.n) (sym c.self.view_is) c.in-Ok-enter.ensures.enters in
     let it = entered_so g.C.TableCore.is_once c.args.self.now c.args.f c.args.waker c.args.future.now c.args.number c.requires.stands c.in-Ok-enter.n _ enters c.in-Ok-enter.round (ap (λ (e : KeptTable). get e.rounds c.in-Ok-enter.n) c.self.view_is ∙ c.in-Ok-enter.ensures.round) in
     omega (arith, it.kept, c.requires.room, c.keeps-more.ensures, ap (λ (e : KeptTable). waiting_in e.keyed.table.slots) c.self.view_is, ap (λ (r : Waking ℕ). r.registered) c.in-Ok.ensures.ok)
 
 pub returns-clause-steps : goal.returns-clause-steps
 returns-clause-steps g c = λ s.
-    let enters : Enters c.args.self.now c.args.number c.args.future.now c.in-Ok-enter.n (record { keyed = g.C.TableCore.seen_as c.self.inside.core; current = c.self.inside.current; rounds = c.self.inside.rounds; futures = c.self.inside.futures }) = subst (Enters c.args.self.now c.args.number c.args.future.now c.in-Ok-enter.n) (sym c.self.view_is) c.in-Ok-enter.ensures.enters in
+    let enters : Enters c.args.self.now c.args.number c.args.future.now c.in-Ok-enter.n (record { keyed = g.C.TableCore.seen_as c.self.inside.core; current = c.self.inside.current.things; rounds = c.self.inside.rounds; futures = c.self.inside.futures }) = subst (Enters c.args.self.now c.args.number c.args.future.now c.in-Ok-enter.n) (sym c.self.view_is) c.in-Ok-enter.ensures.enters in
     let it = entered_so g.C.TableCore.is_once c.args.self.now c.args.f c.args.waker c.args.future.now c.args.number s c.in-Ok-enter.n _ enters c.in-Ok-enter.round (ap (λ (e : KeptTable). get e.rounds c.in-Ok-enter.n) c.self.view_is ∙ c.in-Ok-enter.ensures.round) in
     let done = polls_any g.C.TableCore.is_once c.args.self.now c.args.f c.args.waker c.args.future.now c.args.number s (idle_where g.C.TableCore.is_once c.args.self.now c.args.f c.args.waker c.args.future.now c.args.number s c.own_round-own.result c.own_round-own.ensures (sym c.runs.ensures ∙ c.if-runs.false)) (g.C.TableCore.seen_as c.poll.new.self) c.poll.new.call c.in-Ok-poll.answer c.follow-told.result c.follow-told.new.self c.follow-told.new.future
     c.in-Ok-enter.n _ enters c.in-Ok-enter.round (ap (λ (e : KeptTable). get e.rounds c.in-Ok-enter.n) c.self.view_is ∙ c.in-Ok-enter.ensures.round) c.in-Ok-poll.ensures.polls c.follow-told.ensures in
