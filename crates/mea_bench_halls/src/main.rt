@@ -1,5 +1,5 @@
-//! The program `mea_bench_halls`: plays rounds of events of each family on the halls, and prints how many nanoseconds
-//! one event took. It tells nothing of the replies: what they are is what `mea_hall` promises.
+//! The program `mea_bench_halls`: plays rounds of events of semaphores, meeting points and locks on the halls, and prints how many
+//! nanoseconds one event took. It tells nothing of the replies: what they are is what `mea_hall` promises.
 //!
 //!     mea_bench_halls ROUNDS
 //!

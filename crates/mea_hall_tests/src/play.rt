@@ -6,8 +6,8 @@ use mea_family_hall::{Family, FamilyHall};
 use std::alloc::Global;
 use std::process::Abort;
 
-/// What is lent under a name: for each kind of objects that the family looks up, in an order of its own, a number that the
-/// core tells, or 0 where nothing is asked of it.
+/// What is lent under a name: numbers that the cores of that name tell, or 0 where nothing is asked of one. What stands at
+/// each place is said above the family's impl of `Lends`; a place that it does not use is None.
 pub(crate) type Lent = [Option<u64>; 4];
 
 /// What is lent under a name of nothing.
