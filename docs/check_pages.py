@@ -7,11 +7,14 @@ It tells of each page
   * a sentence of more than 40 words, and a table cell of more than 30;
   * a link to a file or a heading that is not there;
   * of a table with the columns `clause` and `crate`: a clause that does not stand on its call in that crate,
-    where a cell reads "`clause`, `clause` of `call`; `call`". A call with no clause before it is to be there.
+    where a cell reads "`clause`, `clause` of `call`; `call`". A call with no clause before it is to be there;
+  * a crate that is not there, but on the page of changes, and a test that a crate of tests does not have, where a
+    page reads "`mea_x_tests` `module`, `module::test`". A name with three underscores and more is to stand in some crate.
 
 It ends with 1 where it has told of something.
 """
 
+import functools
 import pathlib
 import re
 import sys
@@ -24,6 +27,9 @@ CALL = re.compile(r"\s*(?:pub(?:\([a-z ]+\))? )?(?:const |unsafe )*fn (\w+)")
 OWNER = re.compile(r"\s*(?:pub(?:\([a-z ]+\))? )?(?:unsafe )?(impl|trait|struct|enum)\b(.*)")
 CLAUSE = re.compile(r"\s*ensures (\w+)\b")
 SAID_NOTHING = re.compile(r"\s*ensures \{")
+CRATE = re.compile(r"`(mea_[a-z]{2}\w*|mea)`")
+TESTS = re.compile(r"`(mea_(?:\w+_)?tests|mea_rows)`((?:,? `(?!mea_)[\w:]+`)+)")
+LONG_NAME = re.compile(r"`((?!mea_)[a-z]\w*(?:_\w+){3,})`")
 
 
 def owner_of(kind, rest):
@@ -160,7 +166,43 @@ def clause_faults(head, rows, known):
                             yield number, f"{crate}: {call} has no clause {clause}"
 
 
-def faults(path, known):
+def words_of(crate):
+    """The words of a crate's sources, and the names of its files and folders."""
+    found = set()
+    for path in (TOP / "crates" / crate).rglob("*"):
+        if path.suffix in (".rt", ".antt", ".edit") and "out" not in path.parts:
+            found.update(re.findall(r"\w+", path.read_text()), path.with_suffix("").parts)
+    return found
+
+
+@functools.cache
+def tests_of(crate):
+    """The names of a crate's files, folders and functions."""
+    found = set()
+    for path in (TOP / "crates" / crate / "src").rglob("*.rt"):
+        found.update(re.findall(r"\bfn (\w+)", path.read_text()), path.with_suffix("").parts)
+    return found
+
+
+def name_faults(line, said, tells_changes):
+    """What a line names and no crate has. `said` keeps the words of the crates, by crate, and of all under the name of none."""
+    if not said:
+        for folder in (TOP / "crates").iterdir():
+            said[folder.name] = words_of(folder.name)
+        said[""] = set().union(*said.values())
+    for crate in CRATE.findall(line):
+        if crate not in said and not tells_changes:
+            yield f"no crate {crate}"
+    for crate, tests in TESTS.findall(line):
+        for test in names(tests):
+            if not set(test.split("::")) <= tests_of(crate):
+                yield f"{crate} has no {test}"
+    for name in LONG_NAME.findall(line):
+        if name not in said[""]:
+            yield f"no crate has {name}"
+
+
+def faults(path, known, said):
     text = path.read_text()
     for number, block in blocks(text):
         for sentence in sentences(block):
@@ -173,6 +215,8 @@ def faults(path, known):
                     yield number, f"a cell of {words(cell)} words: {cell[:60]}"
         yield from clause_faults(head, rows, known)
     for number, line in enumerate(text.splitlines(), 1):
+        for fault in name_faults(line, said, path.name == "CHANGELOG.md"):
+            yield number, fault
         for target in re.findall(r"\]\(([^)]+)\)", line):
             if re.match(r"[a-z]+:", target):
                 continue
@@ -187,9 +231,9 @@ def faults(path, known):
 def main():
     asked = [pathlib.Path(name).resolve() for name in sys.argv[1:]]
     pages = asked or [*TOP.glob("*.md"), *(TOP / "docs").glob("*.md"), *(TOP / "examples").glob("*.md")]
-    told, known = 0, {}
+    told, known, said = 0, {}, {}
     for path in sorted(pages):
-        for number, fault in faults(path, known):
+        for number, fault in faults(path, known, said):
             print(f"{path.relative_to(TOP)}:{number}: {fault}")
             told += 1
     return 1 if told else 0
