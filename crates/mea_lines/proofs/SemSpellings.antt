@@ -1,6 +1,5 @@
 -- the lines of semaphores are what their events say
-use Rattle.std.proofs.Common.{◌≡◌, ℕ, true, List, Some, None, refl, ap, subst, ◌∙◌, rules}
-use Rattle.std.specs.Option.{option_map_or}
+use Rattle.std.proofs.Common.{◌≡◌, ℕ, true, List, Some, refl, rules}
 use Rattle.mea_events.specs.declared.sem_event.SemEvent.{SemEvent}
 use Rattle.mea_events.specs.declared.sem_event.SemEvent.TheVariants as Sems
 use Rattle.mea_events.specs.declared.event.Event.TheVariants.{Sem}
@@ -8,10 +7,8 @@ use Rattle.mea_lines.specs.Lines.{event_of_word}
 use Rattle.mea_text.specs.declared.numbers.Numbers.{Numbers}
 use Rattle.mea_lines.specs.SemLines.{semaphore_lines}
 use Rattle.mea_text.specs.Tables.{of_table}
-use Rattle.mea_text.specs.Words.{◌>>=◌, cut}
-use Rattle.mea_lines.specs.Marks.{marks, of_marks}
 use Rattle.mea_lines.specs.SemSpelling.{semaphore_said, SemaphoreFits}
-use Rattle.mea_text.proofs.Cuts.{lacks_byte, cut_nowhere}
+use Rattle.mea_text.proofs.Cuts.{lacks_byte}
 use Rattle.mea_text.proofs.Tables.{AreSaid, IsFound, table_only}
 
 pub semaphore_told : (e : SemEvent) → SemaphoreFits e → event_of_word (semaphore_said e).0 (semaphore_said e).1 ≡ Some (Sem e)
@@ -30,16 +27,3 @@ semaphore_lines_are_said = search rules
 pub semaphore_found : (word : List ℕ) (numbers : Numbers) (e : SemEvent) → of_table semaphore_lines word numbers ≡ Some e
     → IsFound semaphore_said SemaphoreFits word numbers e
 semaphore_found word numbers e = table_only semaphore_said SemaphoreFits (λ w. w) semaphore_lines word numbers e semaphore_lines_are_said
-
-semaphore_dotless : (e : SemEvent) → lacks_byte 46 (semaphore_said e).0 ≡ true
-semaphore_dotless (Sems.New n) = refl
-semaphore_dotless _ = refl
-
--- a word and numbers that stand in the table of semaphores have no other event
-pub semaphore_first : (word : List ℕ) (numbers : Numbers) (e : SemEvent) → of_table semaphore_lines word numbers ≡ Some e → event_of_word word numbers ≡ Some (Sem e)
-unfolding event_of_word
-semaphore_first word numbers e is =
-    let found = semaphore_found word numbers e is in
-    let dotless : cut 46 word ≡ None = cut_nowhere 46 word (subst (λ (p : List ℕ × Numbers). lacks_byte 46 p.0 ≡ true) found.0 (semaphore_dotless e)) in
-    ap (λ c. option_map_or (λ (parts : List ℕ × List ℕ). of_marks marks parts.0 parts.1 numbers) c (of_table semaphore_lines word numbers >>= (λ event. Some (Sem event)))) dotless
-    ∙ ap (λ o. o >>= (λ event. Some (Sem event))) is

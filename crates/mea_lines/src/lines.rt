@@ -37,15 +37,14 @@ fn word_and_numbers(line: &[u8]) -> Option<(&[u8], Numbers)>
 }
 
 /// The event of a word and its numbers. The words of semaphores have no dot.
-#[tactic(auto, unfolding(crate::specs::Lines::event_of_word), using(crate::proofs::SemSpellings::semaphore_first))]
+#[tactic(auto, unfolding(crate::specs::Lines::event_of_word))]
 fn event_of_word(word: &[u8], numbers: Numbers) -> Option<Event>
     ensures { result ≡ event_of_word word.now numbers }
 {
-    if let Some(event) = semaphore_event(word, numbers) {
-        return Some(Event::Sem(event));
+    match cut(word, b'.') {
+        None => semaphore_event(word, numbers).map(Event::Sem),
+        Some((mark, verb)) => marked_event(mark, verb, numbers),
     }
-    let (mark, verb) = cut(word, b'.')?;
-    marked_event(mark, verb, numbers)
 }
 
 /// The event of a word that has a dot, by what stands before and after it.
