@@ -14,6 +14,13 @@ use Rattle.mea_text.proofs.Readings.{some_same}
 pub same_bytes : (xs ys : List ℕ) → bytes_eq xs ys ≡ true → xs ≡ ys
 same_bytes xs ys h = (bytes_eq-Decides xs ys).0 h
 
+-- words that cannot be one differ
+pub not_same : (xs ys : List ℕ) → (xs ≡ ys → ⊥) → bytes_eq xs ys ≡ false
+not_same xs ys apart = elim (bytes_eq xs ys) as (λ b. bytes_eq xs ys ≡ b → b ≡ false) [
+  | true ↦ λ h. absurd (apart (same_bytes xs ys h))
+  | false ↦ λ h. refl
+] refl
+
 -- what is chosen by a test, or else
 pub if_some : {E P : Type 0} (b : Bool) (x y : Option E) (e : E) → cond b x y ≡ Some e → (b ≡ true → x ≡ Some e → P) → (y ≡ Some e → P) → P
 if_some true x y e is here later = here refl is

@@ -5,10 +5,18 @@ ghost use Rattle.mea_text.specs.Words.{cut};
 
 use memchr::memchr;
 
-/// Whether a word is this one.
+/// Whether a word is this one. A word of another length or with another first byte is told at once.
+#[inline(always)]
+#[tactic(auto, using(crate::proofs::Tables::not_same, crate::proofs::Tables::same_bytes))]
 pub fn is(word: &[u8], own: &[u8]) -> bool
     ensures { result ≡ bytes_eq word.now own.now }
 {
+    if word.len() != own.len() {
+        return false;
+    }
+    if !own.is_empty() && word[0] != own[0] {
+        return false;
+    }
     word == own
 }
 
