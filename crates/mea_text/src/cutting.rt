@@ -7,7 +7,7 @@ use memchr::memchr;
 
 /// Whether a word is this one. A word of another length or with another first byte is told at once.
 #[inline(always)]
-#[tactic(auto, using(crate::proofs::Tables::not_same, crate::proofs::Tables::same_bytes))]
+#[tactic(auto, using(crate::proofs::Tables::of_other_length, crate::proofs::Tables::of_other_first))]
 pub fn is(word: &[u8], own: &[u8]) -> bool
     ensures { result ≡ bytes_eq word.now own.now }
 {
