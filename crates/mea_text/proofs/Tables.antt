@@ -1,5 +1,5 @@
 -- what is found in tables of lines
-use Rattle.std.proofs.Common.{◌≡◌, ◌≢◌, ℕ, ◌<◌, ◌^◌, ◌++◌, Bool, true, false, cond, List, [], ◌∷◌, length, get_or, Option, Some, None, refl, ap, sym, subst, ◌∙◌, option_and_then}
+use Rattle.std.proofs.Common.{◌≡◌, ◌≢◌, ℕ, ◌<◌, ◌^◌, Bool, true, false, cond, List, [], ◌∷◌, length, get_or, ext_get_or, Option, Some, refl, ap, sym, subst, ◌∙◌, option_and_then}
 use Rattle.std.specs.Str.{bytes_eq}
 use Rattle.std.proofs.lemmas.Bool.{false_from_ne_true}
 use Rattle.std.proofs.lemmas.Option.{option_and_then_some}
@@ -15,12 +15,16 @@ use Rattle.mea_text.proofs.Readings.{some_same}
 pub same_bytes : (xs ys : List ℕ) → bytes_eq xs ys ≡ true → xs ≡ ys
 same_bytes xs ys h = (bytes_eq-Decides xs ys).0 h
 
--- bytes of other lengths, or with other first bytes, are not the same
+-- bytes of other lengths, or of which one is another, are not the same
 pub of_other_length : (xs ys : List ℕ) → length xs ≢ length ys → bytes_eq xs ys ≡ false
 of_other_length xs ys other = false_from_ne_true (bytes_eq xs ys) (λ same. other (ap length (same_bytes xs ys same)))
 
-pub of_other_first : (xs ys : List ℕ) → get_or xs 0 0 ≢ get_or ys 0 0 → bytes_eq xs ys ≡ false
-of_other_first xs ys other = false_from_ne_true (bytes_eq xs ys) (λ same. other (ap (λ bs. get_or bs 0 0) (same_bytes xs ys same)))
+pub of_other_byte : (xs ys : List ℕ) (i : ℕ) → get_or xs i 0 ≢ get_or ys i 0 → bytes_eq xs ys ≡ false
+of_other_byte xs ys i other = false_from_ne_true (bytes_eq xs ys) (λ same. other (ap (λ bs. get_or bs i 0) (same_bytes xs ys same)))
+
+-- as many bytes, of which each is the other's, are the same
+pub of_each_byte : (xs ys : List ℕ) → length xs ≡ length ys → ((i : ℕ) → i < length xs → get_or xs i 0 ≡ get_or ys i 0) → bytes_eq xs ys ≡ true
+of_each_byte xs ys long each = (bytes_eq-Decides xs ys).1 (ext_get_or 0 xs ys long each)
 
 -- what is chosen by a test, or else
 pub if_some : {E P : Type 0} (b : Bool) (x y : Option E) (e : E) → cond b x y ≡ Some e → (b ≡ true → x ≡ Some e → P) → (y ≡ Some e → P) → P
