@@ -1,5 +1,9 @@
 -- who is admitted first is an order, as weights are above 0
-use Rattle.std.proofs.Common.{◌≡◌, ℕ, zero, ◌*◌, ◌<◌, ◌≤◌, ◌==◌, ◌&&◌, ◌||◌, ◌⊎◌, inl, inr, Bool, true, false, cond, Option, Some, None, refl, nat_lt, arith}
+use Rattle.std.proofs.Common.{◌≡◌, ℕ, zero, ◌*◌, ◌<◌, ◌≤◌, ◌==◌, ◌&&◌, ◌||◌, ◌⊎◌, inl, inr, Bool, true, false, cond, Option, Some, None, refl, ap, nat_lt, arith}
+use mathlib.Core.HLevel.{is_prop→PathP}
+use native.Mathlib.Bridge.{le_prop}
+use Rattle.std.specs.Option.{option_eq}
+use Rattle.std.proofs.lemmas.Bool.{eqb-true}
 use Rattle.std.proofs.Math.Nat.{mul_right_comm, mul-le-mul_right, le_of_mul-le-mul_right}
 use Rattle.std.proofs.lemmas.Bool.Decides.{nat_tests}
 use Rattle.mea_share_core.specs.declared.rank.Rank.{Rank}
@@ -78,3 +82,31 @@ one_of (Some a) (Some b) = by_test (is_before b a)
     by_test : (t : Bool) → (cond t (Some b) (Some a) ≡ Some a) ⊎ (cond t (Some b) (Some a) ≡ Some b)
     by_test true = inr refl
     by_test false = inl refl
+
+-- ranks of the same numbers are the same
+same : (a b : Rank) → a.held ≡ b.held → a.weight ≡ b.weight → a.sequence ≡ b.sequence → a.group ≡ b.group → a ≡ b
+same a b held weight sequence group = λ i. record {
+  held = held i;
+  weight = weight i;
+  sequence = sequence i;
+  group = group i;
+  positive = is_prop→PathP (λ j. zero < weight j) (λ j. le_prop) a.positive b.positive i;
+}
+
+abbrev alike : Rank → Rank → Bool
+alike a b = (a.held == b.held) && ((a.weight == b.weight) && ((a.sequence == b.sequence) && (a.group == b.group)))
+
+both : (p q : Bool) → p && q ≡ true → (p ≡ true) × (q ≡ true)
+both true q is = (refl, is)
+both false q is = absurd (cc)
+
+-- what the test of two ranks says where it passes
+pub same_ranks : (a b : Option Rank) → option_eq alike a b ≡ true → a ≡ b
+same_ranks None None is = refl
+same_ranks None (Some b) is = absurd (cc)
+same_ranks (Some a) None is = absurd (cc)
+same_ranks (Some a) (Some b) is =
+    let held = both (a.held == b.held) ((a.weight == b.weight) && ((a.sequence == b.sequence) && (a.group == b.group))) is in
+    let weight = both (a.weight == b.weight) ((a.sequence == b.sequence) && (a.group == b.group)) held.1 in
+    let sequence = both (a.sequence == b.sequence) (a.group == b.group) weight.1 in
+    ap (λ r. Some r) (same a b (eqb-true a.held b.held held.0) (eqb-true a.weight b.weight weight.0) (eqb-true a.sequence b.sequence sequence.0) (eqb-true a.group b.group sequence.1))

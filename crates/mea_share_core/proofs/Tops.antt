@@ -1,10 +1,10 @@
 -- the top of a tournament is one of its leaves that none is before
 use Rattle.std.proofs.Common.{◌≡◌, ℕ, suc, zero, ◌+◌, ◌-◌, ◌*◌, ◌/◌, ◌<◌, ◌≤◌, inl, inr, List, length, drop, set, get_or, Option, None, refl, sym, subst, ◌∙◌, arith}
 use Rattle.std.proofs.lemmas.Bool.{cases_lt, cases_eq}
-use Rattle.std.proofs.lemmas.List.{get_or-drop, length-drop, length-set, drop-set-add, ext_get_or}
+use Rattle.std.proofs.lemmas.List.{get_or-drop, get_or-set_same, get_or-set_other, length-drop, length-set, drop-set-add, ext_get_or}
 use Rattle.mea_share_core.specs.declared.rank.Rank.{Rank}
 use Rattle.mea_share_core.specs.Rank.{lesser, NotBefore, IsNext}
-use Rattle.mea_share_core.specs.Tournament.{IsTree}
+use Rattle.mea_share_core.specs.Tournament.{IsNode, IsTree, IsTreeBut}
 use Rattle.mea_share_core.proofs.Ranks.{not_itself, chain, not_left, not_right, one_of}
 
 module _ (leaves : ℕ) (tree : List (Option Rank)) (played : IsTree leaves tree) where
@@ -57,3 +57,25 @@ set_leaf leaves place old new r before after same =
     (omega (arith, before, after, length-drop leaves new, length-drop leaves (set old (leaves + place) r), length-set old (leaves + place) r))
     (λ i _. get_or-drop leaves new i None ∙ same (leaves + i) (omega arith) ∙ sym (get_or-drop leaves (set old (leaves + place) r) i None))
     ∙ drop-set-add leaves old place r
+
+pub lesser_of : {a b c d : Option Rank} → a ≡ b → c ≡ d → lesser a c ≡ lesser b d
+lesser_of e f = λ i. lesser (e i) (f i)
+
+-- a node is played, and the one above it may have to be
+pub played_at : (p leaves : ℕ) (tree : List (Option Rank)) (r : Option Rank) → length tree ≡ 2 * leaves → 0 < p → p < leaves → IsTreeBut p leaves tree
+    → r ≡ lesser (get_or tree (2 * p) None) (get_or tree (2 * p + 1) None) → IsTreeBut (p / 2) leaves (set tree p r)
+played_at p leaves tree r size some inner played is = λ k above below other. elim (cases_eq k p) as (λ _. IsNode (set tree p r) k) [
+  | inl same ↦ subst (λ j. IsNode (set tree p r) j) (sym same)
+      (get_or-set_same tree p r None (omega arith) ∙ is
+      ∙ sym (lesser_of (get_or-set_other tree p (2 * p) r None (λ e. omega (arith, e, some))) (get_or-set_other tree p (2 * p + 1) r None (λ e. omega (arith, e, some)))))
+  | inr apart ↦
+      get_or-set_other tree p k r None apart ∙ played k above below apart
+      ∙ sym (lesser_of (get_or-set_other tree p (2 * k) r None (λ e. other (omega (arith, e)))) (get_or-set_other tree p (2 * k + 1) r None (λ e. other (omega (arith, e)))))
+]
+
+-- where the node is the lesser as it is, all are played
+pub all_played : (p leaves : ℕ) (tree : List (Option Rank)) → IsTreeBut p leaves tree → IsNode tree p → IsTree leaves tree
+all_played p leaves tree played here = λ k above below. elim (cases_eq k p) as (λ _. IsNode tree k) [
+  | inl same ↦ subst (λ j. IsNode tree j) (sym same) here
+  | inr apart ↦ played k above below apart
+]

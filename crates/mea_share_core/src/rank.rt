@@ -1,7 +1,7 @@
 ghost use Rattle.std.specs.Prelude.{◌<◌};
 
 /// How much a queued key holds, its weight, the number of its oldest waiter, and which group it is.
-#[derive(Clone, Copy)]
+#[derive(Clone, Copy, PartialEq, Eq)]
 pub struct Rank {
     pub held: usize,
     pub weight: u64,

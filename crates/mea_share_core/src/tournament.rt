@@ -76,33 +76,44 @@ impl Tournament {
         play(&mut self.nodes, self.groups, group, rank);
     }
 
-    /// Makes room for this many groups; the further ones are not queued. It costs the logarithm for each.
+    /// Makes room for this many groups; the further ones are not queued. It costs a step for each.
     pub fn grow(&mut self, alloc: Global, groups: usize) -> Result<(), NoMemory>
         requires { (length self.old ≤ groups) × (groups < 2 ^ 62) }
         ensures size { OnOk result (length self.new ≡ groups) }
         ensures kept { OnOk result ((k : ℕ) → get_or self.new k None ≡ get_or self.old k None) }
         ensures err { OnErr result (self.new ≡ self.old) }
     {
-        let mut wider = Self::vacant(alloc, groups)?;
-        for group in 0..self.groups {
-            wider.set(group, self.nodes[self.groups + group]);
-        }
-        *self = wider;
+        let mut nodes = vec![in alloc; None; 2 * groups]?;
+        copy_leaves(&self.nodes, self.groups, &mut nodes, groups);
+        play_all(&mut nodes, groups);
+        *self = Tournament { nodes, groups };
         Ok(())
-    }
-
-    // A tournament over groups none of which is queued.
-    fn vacant(alloc: Global, groups: usize) -> Result<Self, NoMemory>
-        requires { groups < 2 ^ 62 }
-        ensures size { IfOk result (λ t. length t ≡ groups) }
-        ensures none { IfOk result (λ t. (k : ℕ) → get_or t k None ≡ None) }
-    {
-        let nodes = vec![in alloc; None; 2 * groups]?;
-        Ok(Tournament { nodes, groups })
     }
 }
 
-// Sets a leaf, and plays again above it.
+// Copies the leaves of a tournament to one over as many groups or more, none of which is queued.
+fn copy_leaves(from: &[Option<Rank>], few: usize, nodes: &mut [Option<Rank>], leaves: usize)
+    requires from { length from.now ≡ 2 * few }
+    requires size { length nodes.old ≡ 2 * leaves }
+    requires more { few ≤ leaves }
+    requires none { (k : ℕ) → get_or nodes.old k None ≡ None }
+    ensures { (k : ℕ) → get_or nodes.new (leaves + k) None ≡ get_or from.now (few + k) None }
+{
+    nodes[leaves..leaves + few].copy_from_slice(&from[few..]);
+}
+
+// Plays at each inner node, from the last to the first.
+fn play_all(nodes: &mut [Option<Rank>], leaves: usize)
+    requires { length nodes.old ≡ 2 * leaves }
+    ensures played { IsTree leaves nodes.new }
+    ensures leaves { (k : ℕ) → leaves ≤ k → get_or nodes.new k None ≡ get_or nodes.old k None }
+{
+    for node in (1..leaves).rev() {
+        nodes[node] = lesser(nodes[2 * node], nodes[2 * node + 1]);
+    }
+}
+
+// Sets a leaf, and plays again above it, up to the first node that stays as it was.
 fn play(nodes: &mut Vec<Option<Rank>>, leaves: usize, place: usize, rank: Option<Rank>)
     requires size { length nodes.old.items ≡ 2 * leaves }
     requires place { place < leaves }
@@ -115,8 +126,10 @@ fn play(nodes: &mut Vec<Option<Rank>>, leaves: usize, place: usize, rank: Option
     nodes[node] = rank;
     while node > 1 {
         node /= 2;
-        let left = nodes[2 * node];
-        let right = nodes[2 * node + 1];
-        nodes[node] = lesser(left, right);
+        let winner = lesser(nodes[2 * node], nodes[2 * node + 1]);
+        if winner == nodes[node] {
+            return;
+        }
+        nodes[node] = winner;
     }
 }
