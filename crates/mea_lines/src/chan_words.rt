@@ -7,6 +7,7 @@ use mea_text::Numbers::{self, Bare, One, Two};
 use mea_text::is;
 
 /// The lines that use a channel with room for so many messages.
+#[inline(always)]
 #[tactic(auto, unfolding(crate::specs::ChanLines::bounded_lines))]
 pub fn bounded_event(verb: &[u8], numbers: Numbers) -> Option<ChanEvent>
     ensures { result ≡ of_table bounded_lines verb.now numbers }
@@ -33,6 +34,7 @@ pub fn bounded_event(verb: &[u8], numbers: Numbers) -> Option<ChanEvent>
 }
 
 /// The lines that use a channel for any number of messages.
+#[inline(always)]
 #[tactic(auto, unfolding(crate::specs::ChanLines::unbounded_lines))]
 pub fn unbounded_event(verb: &[u8], numbers: Numbers) -> Option<ChanEvent>
     ensures { result ≡ of_table unbounded_lines verb.now numbers }
@@ -59,6 +61,7 @@ pub fn unbounded_event(verb: &[u8], numbers: Numbers) -> Option<ChanEvent>
 }
 
 /// The lines that use a channel for one message.
+#[inline(always)]
 #[tactic(auto, unfolding(crate::specs::ChanLines::oneshot_lines))]
 pub fn oneshot_event(verb: &[u8], numbers: Numbers) -> Option<ChanEvent>
     ensures { result ≡ of_table oneshot_lines verb.now numbers }
@@ -89,6 +92,7 @@ pub fn oneshot_event(verb: &[u8], numbers: Numbers) -> Option<ChanEvent>
 }
 
 /// The lines that use a broadcast channel.
+#[inline(always)]
 #[tactic(auto, unfolding(crate::specs::ChanLines::broadcast_lines))]
 pub fn broadcast_event(verb: &[u8], numbers: Numbers) -> Option<ChanEvent>
     ensures { result ≡ of_table broadcast_lines verb.now numbers }
@@ -117,6 +121,7 @@ pub fn broadcast_event(verb: &[u8], numbers: Numbers) -> Option<ChanEvent>
 }
 
 /// The lines that speak of a box.
+#[inline(always)]
 #[tactic(auto, unfolding(crate::specs::ChanLines::box_lines))]
 pub fn box_event(verb: &[u8], numbers: Numbers) -> Option<ChanEvent>
     ensures { result ≡ of_table box_lines verb.now numbers }
@@ -139,6 +144,7 @@ pub fn box_event(verb: &[u8], numbers: Numbers) -> Option<ChanEvent>
 }
 
 /// The lines that speak of a box that may be empty.
+#[inline(always)]
 #[tactic(auto, unfolding(crate::specs::ChanLines::option_box_lines))]
 pub fn option_box_event(verb: &[u8], numbers: Numbers) -> Option<ChanEvent>
     ensures { result ≡ of_table option_box_lines verb.now numbers }

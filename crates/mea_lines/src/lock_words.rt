@@ -7,6 +7,7 @@ use mea_text::Numbers::{self, Bare, One, Three, Two};
 use mea_text::is;
 
 /// The lines that speak of a mutex.
+#[inline(always)]
 #[tactic(auto, unfolding(crate::specs::LockLines::mutex_lines))]
 pub fn mutex_event(verb: &[u8], numbers: Numbers) -> Option<LockEvent>
     ensures { result ≡ of_table mutex_lines verb.now numbers }
@@ -36,6 +37,7 @@ pub fn mutex_event(verb: &[u8], numbers: Numbers) -> Option<LockEvent>
 }
 
 /// The lines that speak of a reader-writer lock.
+#[inline(always)]
 #[tactic(auto, unfolding(crate::specs::LockLines::rw_lock_lines))]
 pub fn rw_lock_event(verb: &[u8], numbers: Numbers) -> Option<LockEvent>
     ensures { result ≡ of_table rw_lock_lines verb.now numbers }
@@ -71,6 +73,7 @@ pub fn rw_lock_event(verb: &[u8], numbers: Numbers) -> Option<LockEvent>
 }
 
 /// The lines that speak of a condition variable and its waits.
+#[inline(always)]
 #[tactic(auto, unfolding(crate::specs::LockLines::condvar_lines))]
 pub fn condvar_event(verb: &[u8], numbers: Numbers) -> Option<LockEvent>
     ensures { result ≡ of_table condvar_lines verb.now numbers }

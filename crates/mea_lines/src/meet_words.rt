@@ -7,6 +7,7 @@ use mea_text::Numbers::{self, Bare, One, Two};
 use mea_text::{count_of, is};
 
 /// The lines that speak of a barrier.
+#[inline(always)]
 #[tactic(auto, unfolding(crate::specs::MeetLines::barrier_lines))]
 pub fn barrier_event(verb: &[u8], numbers: Numbers) -> Option<MeetEvent>
     ensures { result ≡ of_table barrier_lines verb.now numbers }
@@ -28,6 +29,7 @@ pub fn barrier_event(verb: &[u8], numbers: Numbers) -> Option<MeetEvent>
 }
 
 /// The lines that speak of a latch.
+#[inline(always)]
 #[tactic(auto, unfolding(crate::specs::MeetLines::latch_lines))]
 pub fn latch_event(verb: &[u8], numbers: Numbers) -> Option<MeetEvent>
     ensures { result ≡ of_table latch_lines verb.now numbers }
@@ -54,6 +56,7 @@ pub fn latch_event(verb: &[u8], numbers: Numbers) -> Option<MeetEvent>
 }
 
 /// The lines that speak of a handle or a future of a wait group.
+#[inline(always)]
 #[tactic(auto, unfolding(crate::specs::MeetLines::group_lines))]
 pub fn group_event(verb: &[u8], numbers: Numbers) -> Option<MeetEvent>
     ensures { result ≡ of_table group_lines verb.now numbers }
@@ -79,6 +82,7 @@ pub fn group_event(verb: &[u8], numbers: Numbers) -> Option<MeetEvent>
 }
 
 /// The lines that speak of a shutdown.
+#[inline(always)]
 #[tactic(auto, unfolding(crate::specs::MeetLines::shutdown_lines))]
 pub fn shutdown_event(verb: &[u8], numbers: Numbers) -> Option<MeetEvent>
     ensures { result ≡ of_table shutdown_lines verb.now numbers }

@@ -7,6 +7,7 @@ use mea_text::Numbers::{self, Bare, One, Two};
 use mea_text::is;
 
 /// The lines that speak of a call that runs once, and of its futures.
+#[inline(always)]
 #[tactic(auto, unfolding(crate::specs::OnceLines::call_lines))]
 pub fn call_event(verb: &[u8], numbers: Numbers) -> Option<OnceEvent>
     ensures { result ≡ of_table call_lines verb.now numbers }
@@ -34,6 +35,7 @@ pub fn call_event(verb: &[u8], numbers: Numbers) -> Option<OnceEvent>
 }
 
 /// The lines that speak of a cell and its futures.
+#[inline(always)]
 #[tactic(auto, unfolding(crate::specs::OnceLines::cell_lines))]
 pub fn cell_event(verb: &[u8], numbers: Numbers) -> Option<OnceEvent>
     ensures { result ≡ of_table cell_lines verb.now numbers }
@@ -69,6 +71,7 @@ pub fn cell_event(verb: &[u8], numbers: Numbers) -> Option<OnceEvent>
 }
 
 /// The lines that speak of a map and its futures.
+#[inline(always)]
 #[tactic(auto, unfolding(crate::specs::OnceLines::map_lines))]
 pub fn map_event(verb: &[u8], numbers: Numbers) -> Option<OnceEvent>
     ensures { result ≡ of_table map_lines verb.now numbers }
@@ -98,6 +101,7 @@ pub fn map_event(verb: &[u8], numbers: Numbers) -> Option<OnceEvent>
 }
 
 /// The lines that speak of a group that works once for a key, and of its futures.
+#[inline(always)]
 #[tactic(auto, unfolding(crate::specs::OnceLines::work_lines))]
 pub fn work_event(verb: &[u8], numbers: Numbers) -> Option<OnceEvent>
     ensures { result ≡ of_table work_lines verb.now numbers }

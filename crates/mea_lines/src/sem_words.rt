@@ -7,6 +7,7 @@ use mea_text::Numbers::{self, One, Two};
 use mea_text::is;
 
 /// The lines that speak of a semaphore, its futures and its permits.
+#[inline(always)]
 #[tactic(auto, unfolding(crate::specs::SemLines::semaphore_lines))]
 pub fn semaphore_event(word: &[u8], numbers: Numbers) -> Option<SemEvent>
     ensures { result ≡ of_table semaphore_lines word.now numbers }

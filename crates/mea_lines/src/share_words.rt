@@ -7,6 +7,7 @@ use mea_text::Numbers::{self, One, Three, Two};
 use mea_text::is;
 
 /// The lines that speak of an admission, its futures and its permits.
+#[inline(always)]
 #[tactic(auto, unfolding(crate::specs::ShareLines::admission_lines))]
 pub fn admission_event(verb: &[u8], numbers: Numbers) -> Option<ShareEvent>
     ensures { result ≡ of_table admission_lines verb.now numbers }

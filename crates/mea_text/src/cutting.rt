@@ -33,6 +33,8 @@ pub fn cut(bytes: &[u8], byte: u8) -> Option<(&[u8], &[u8])>
     }
 }
 
+// It stands apart, since what a caller makes of the place would be made ready at each byte.
+#[inline(never)]
 fn place_of(bytes: &[u8], byte: u8) -> Option<usize>
     ensures place { result ≡ position (λ b. b == byte) bytes.now }
     ensures within { IfSome result (λ at. at < length bytes.now) }

@@ -40,8 +40,7 @@ pub fn first_number(bytes: &[u8]) -> Option<(u64, Option<&[u8]>)>
 }
 
 /// What the digits before the first space, or all, stand for, and how many they are, where no other byte stands there
-/// and the value fits. It stands apart, since a caller's ways out would be made ready at each digit.
-#[inline(never)]
+/// and the value fits.
 fn digits_of(bytes: &[u8]) -> Option<(u64, usize)>
     ensures { SomeIff result ((all_ascii_digits (before_space bytes.now) ≡ true) × (digits_value 10 (before_space bytes.now) < 2 ^ 64)) (digits_value 10 (before_space bytes.now), place_of_space bytes.now) }
 {
