@@ -1,4 +1,4 @@
--- what each event changes: one admission, one future and one permit at the most
+-- what each action changes: one admission, one future and one permit at the most
 use Rattle.std.proofs.Common.{◌≡◌, ℕ, ◌+◌, ◌-◌, ◌<◌, ◌≤◌, ◌==◌, ◌&&◌, inl, Bool, true, false, cond, length, List, [], Option, Some, None, IsSome, is_some, if◌then◌else◌, refl, ap, sym, subst, ◌∙◌, arith}
 use Rattle.std.specs.FinMap.{get, insert, remove, len}
 use Rattle.std.proofs.lemmas.Bool.{eqb-true, eq-eqb, ne_eqb}
@@ -11,13 +11,10 @@ use Rattle.mea_family.specs.Play.{found}
 use Rattle.mea_by_name.proofs.Cases.{by_found, by_if}
 use Rattle.mea_by_name.proofs.Own.{own-nothing, count-new, count-gone}
 use Rattle.mea_share_core.specs.Share.{taken, queued, left, readied, given_up, released, weighing}
-use Rattle.mea_events.specs.declared.share_event.ShareEvent.{ShareEvent}
-use Rattle.mea_events.specs.declared.share_event.ShareEvent.TheVariants.{FsNew, FsFree, FsWaiters, FsTry, FsTryo, FsAcq, FsAcqo, FsPoll, FsKey, FsEnd, FsDrop, FsWeight, FsWeightof}
 use Rattle.mea_share_model.specs.Next.{Shares, Waiter, share_at, put_share, waiting_in, next_of}
 use Rattle.mea_share_model.specs.Admissions as admissions
 use Rattle.mea_share_model.specs.Admissions.{Admission, ShareFuture, SharePermit, ShareHall, new_admission, with_share, taken_for, passed, woken, tidied_admissions}
-use Rattle.mea_share_model.specs.Meaning.{cause_of, step, registers, end_by}
-use Rattle.mea_share_model.specs.ShareFamily.{polled, ends}
+use Rattle.mea_share_model.specs.Actions.{Action, Make, Free, Waiters, Weight, Weigh, Try, Begin, Poll, Key, End, Drop, cause_in, act_in, end_by, polled_in, ends_in, registers_in}
 use Rattle.mea_share_model.specs.Valid.{is_of, HasNumber, HasAt, AreValid}
 use Rattle.mea_share_model.proofs.Waiting.{share_put}
 use Rattle.mea_share_model.proofs.Changes.{Change, At, at, Is, No, share_changes, no_change, change_less, passes, then_passes, takes, releases, weighs, gets_ready, gives_up, leaves, begins, waits_again}
@@ -62,12 +59,12 @@ module _ (h : ShareHall) (i : ℕ) where
         → ((p k : ℕ) → (o ≡ p → ⊥) → count (is_of p k) ps ≡ count (is_of p k) h.permits) → AdmissionsGo f extra xs ps (remove h.admissions o) ws
 
   -- and this to the futures: nothing; one is made; f begins to wait, under the next number; f is gone
-  pub data FuturesGo (e : ShareEvent) (f : ℕ) (rs : Names Admission) : Names ShareFuture → Type 0 where
-    Kept : FuturesGo e f rs h.futures
-    Begun : (y : ShareFuture) → y.number ≡ None → (cause_of h e ≡ None → IsSome (get h.admissions y.admission)) → FuturesGo e f rs (insert h.futures i y)
+  pub data FuturesGo (a : Action) (f : ℕ) (rs : Names Admission) : Names ShareFuture → Type 0 where
+    Kept : FuturesGo a f rs h.futures
+    Begun : (y : ShareFuture) → y.number ≡ None → (cause_in h a ≡ None → IsSome (get h.admissions y.admission)) → FuturesGo a f rs (insert h.futures i y)
     Queued : (x : ShareFuture) (r : Admission) → get h.futures f ≡ Some x → get h.admissions x.admission ≡ Some r → HasAt (get rs x.admission) x.key r.next
-        → FuturesGo e f rs (insert h.futures f (record x { number = Some r.next }))
-    Ended : FuturesGo e f rs (remove h.futures f)
+        → FuturesGo a f rs (insert h.futures f (record x { number = Some r.next }))
+    Ended : FuturesGo a f rs (remove h.futures f)
 
   -- and this to the permits: nothing; one is made; one is gone
   pub data PermitsGo : Names SharePermit → Type 0 where
@@ -76,19 +73,19 @@ module _ (h : ShareHall) (i : ℕ) where
     Leave : (k : ℕ) → PermitsGo (remove h.permits k)
 
   -- why f is no future that lived before and is neither polled nor ended
-  pub data Touches (e : ShareEvent) (f : ℕ) : Type 0 where
-    Fresh : f ≡ i → Touches e f
-    Polled : (w : ℕ) → polled e f ≡ Some w → Touches e f
-    Ends : ends e f ≡ true → Touches e f
+  pub data Touches (a : Action) (f : ℕ) : Type 0 where
+    Fresh : f ≡ i → Touches a f
+    Polled : (w : ℕ) → polled_in a f ≡ Some w → Touches a f
+    Ends : ends_in a f ≡ true → Touches a f
 
-  pub record Acts (e : ShareEvent) (extra : ℕ) (o : Outcome ShareHall) : Type 0 where
+  pub record Acts (a : Action) (extra : ℕ) (o : Outcome ShareHall) : Type 0 where
     pub f : ℕ
-    pub touches : Touches e f
+    pub touches : Touches a f
     pub admissions : AdmissionsGo f extra o.hall.futures o.hall.permits o.hall.admissions o.wakes
-    pub futures : FuturesGo e f o.hall.admissions o.hall.futures
+    pub futures : FuturesGo a f o.hall.admissions o.hall.futures
     pub permits : PermitsGo o.hall.permits
     -- a future that is ended is gone
-    pub over : (g : ℕ) → ends e g ≡ true → get o.hall.futures g ≡ None
+    pub over : (g : ℕ) → ends_in a g ≡ true → get o.hall.futures g ≡ None
 
   -- ---- what the permits are
   permit_count : (k : ℕ) (p : SharePermit) (o j : ℕ) → get h.permits k ≡ None → count (is_of o j) (insert h.permits k p) ≡ count (is_of o j) h.permits + cond (is_of o j p) 1 0
@@ -163,14 +160,14 @@ module _ (h : ShareHall) (i : ℕ) where
         (inl (is_there (get (share_at (put_share r.shares x.key s) x.key).waiting r.next) w (ap (λ t. get t.waiting r.next) here ∙ get-there (share_at r.shares x.key).waiting r.next w)))
 
     permit_counts : (o : ℕ) (p : SharePermit) (q : ℕ) (r : Admission) → get h.permits q ≡ Some p → get h.admissions p.admission ≡ Some r → 0 < (share_at r.shares p.key).living
-    permit_counts o p q r is there = let all = valid.living p.admission p.key r there in let one = gone_here q p p.key is in let a : at p.key 1 p.key ≡ 1 = ap (λ b. cond b 1 0) (eq-eqb p.key p.key refl) in omega (arith, all, one, a, at_zero p.key p.key)
+    permit_counts o p q r is there = let all = valid.living p.admission p.key r there in let one = gone_here q p p.key is in let here : at p.key 1 p.key ≡ 1 = ap (λ b. cond b 1 0) (eq-eqb p.key p.key refl) in omega (arith, all, one, here, at_zero p.key p.key)
 
-    module _ (e : ShareEvent) (none : (g : ℕ) → ends e g ≡ true → ⊥) where
-      still : (extra : ℕ) (reply : _) → Acts e extra (quietly h reply)
+    module _ (a : Action) (none : (g : ℕ) → ends_in a g ≡ true → ⊥) where
+      still : (extra : ℕ) (reply : _) → Acts a extra (quietly h reply)
       still extra reply = record { f = i; touches = Fresh refl; admissions = Same (λ o k. refl); futures = Kept; permits = Stay; over = λ g is. absurd (none g is) }
 
-      tries : (o k : ℕ) (plain : Bool) (r : Admission) → get h.admissions o ≡ Some r → Acts e 0 (admissions.try h i o k plain r)
-      tries o k plain r there = by_if (Acts e 0) (r.free == 0) _ _ (λ nothing. still 0 answers.Lacking) (λ some. record {
+      tries : (o k : ℕ) (plain : Bool) (r : Admission) → get h.admissions o ≡ Some r → Acts a 0 (admissions.try h i o k plain r)
+      tries o k plain r there = by_if (Acts a 0) (r.free == 0) _ _ (λ nothing. still 0 answers.Lacking) (λ some. record {
         f = i;
         touches = Fresh refl;
         admissions = Put o r (taken_for r k) None None [] (at k 1) (at k 0) there
@@ -183,7 +180,7 @@ module _ (h : ShareHall) (i : ℕ) where
         over = λ g is. absurd (none g is);
       })
 
-      weighs_key : (o k n : ℕ) (r : Admission) → get h.admissions o ≡ Some r → Acts e 0 (admissions.weigh h o k n r)
+      weighs_key : (o k n : ℕ) (r : Admission) → get h.admissions o ≡ Some r → Acts a 0 (admissions.weigh h o k n r)
       weighs_key o k n r there = record {
         f = i;
         touches = Fresh refl;
@@ -196,7 +193,7 @@ module _ (h : ShareHall) (i : ℕ) where
         over = λ g is. absurd (none g is);
       }
 
-      drops : (o : ℕ) (r : Admission) → get h.admissions o ≡ Some r → Acts e 0 (admissions.drop h o r)
+      drops : (o : ℕ) (r : Admission) → get h.admissions o ≡ Some r → Acts a 0 (admissions.drop h o r)
       drops o r there = record {
         f = i;
         touches = Fresh refl;
@@ -208,10 +205,10 @@ module _ (h : ShareHall) (i : ℕ) where
       }
 
       -- f has its permit
-      readies : (f w extra : ℕ) (x : ShareFuture) (r r' : Admission) (l : Option (ℕ × ℕ)) → polled e f ≡ Some w → get h.futures f ≡ Some x → get h.admissions x.admission ≡ Some r
+      readies : (f w extra : ℕ) (x : ShareFuture) (r r' : Admission) (l : Option (ℕ × ℕ)) → polled_in a f ≡ Some w → get h.futures f ≡ Some x → get h.admissions x.admission ≡ Some r
           → Change r.shares r'.shares r.next r'.next (On None) (On l) [] extra (at x.key 1) (at x.key 0)
           → ((g : ℕ) (y : ShareFuture) (n : ℕ) → get h.futures g ≡ Some y → x.admission ≡ y.admission → y.number ≡ Some n → On l y.key n → f ≡ g)
-          → Acts e extra (admissions.becomes_permit h i f x r')
+          → Acts a extra (admissions.becomes_permit h i f x r')
       readies f w extra x r r' l poll is there change touch = record {
         f = f;
         touches = Polled w poll;
@@ -224,11 +221,11 @@ module _ (h : ShareHall) (i : ℕ) where
         over = λ g is. absurd (none g is);
       }
 
-      more : (extra : ℕ) (m m' : Shares) (next next' : ℕ) (l : Option (ℕ × ℕ)) (a b : ℕ → ℕ) → Change m m' next next' (On None) (On l) [] 0 a b → Change m m' next next' (On None) (On l) [] extra a b
-      more extra m m' next next' l a b change = record { keeps = change.keeps; most = change.most; grows = omega (arith, change.grows); up = change.up; fresh = change.fresh; had = change.had; has = change.has; living = change.living }
+      more : (extra : ℕ) (m m' : Shares) (next next' : ℕ) (l : Option (ℕ × ℕ)) (up down : ℕ → ℕ) → Change m m' next next' (On None) (On l) [] 0 up down → Change m m' next next' (On None) (On l) [] extra up down
+      more extra m m' next next' l up down change = record { keeps = change.keeps; most = change.most; grows = omega (arith, change.grows); up = change.up; fresh = change.fresh; had = change.had; has = change.has; living = change.living }
 
-      polls : (f w : ℕ) (x : ShareFuture) (r : Admission) (p : Option ℕ) → polled e f ≡ Some w → get h.futures f ≡ Some x → get h.admissions x.admission ≡ Some r → x.number ≡ p → Acts e 1 (admissions.poll_at h i f w x r p)
-      polls f w x r None poll is there new = by_if (Acts e 1) (r.free == 0) _ _
+      polls : (f w : ℕ) (x : ShareFuture) (r : Admission) (p : Option ℕ) → polled_in a f ≡ Some w → get h.futures f ≡ Some x → get h.admissions x.admission ≡ Some r → x.number ≡ p → Acts a 1 (admissions.poll_at h i f w x r p)
+      polls f w x r None poll is there new = by_if (Acts a 1) (r.free == 0) _ _
           (λ nothing. record {
             f = f;
             touches = Polled w poll;
@@ -245,7 +242,7 @@ module _ (h : ShareHall) (i : ℕ) where
           (more 1 r.shares _ r.next r.next None (at x.key 1) (at x.key 0)
           (none_touched x.key r.shares _ r.next r.next [] 0 (at x.key 1) (at x.key 0) (share_changes r.shares x.key (taken (share_at r.shares x.key)) r.next r.next No No [] 0 1 0 (takes (share_at r.shares x.key) r.next) (omega arith))))
           (λ g y n was same number never. absurd never))
-      polls f w x r (Some k) poll is there number = by_if (Acts e 1) (is_some (get (share_at r.shares x.key).waiting k)) _ _
+      polls f w x r (Some k) poll is there number = by_if (Acts a 1) (is_some (get (share_at r.shares x.key).waiting k)) _ _
           (λ waits. record {
             f = f;
             touches = Polled w poll;
@@ -275,7 +272,7 @@ module _ (h : ShareHall) (i : ℕ) where
     over_by k g is = ap (get (remove h.futures k)) (sym (eqb-true k g is)) ∙ get-gone h.futures k
 
     module _ (k : ℕ) where
-      ends_permit : (p : SharePermit) (r : Admission) → get h.futures k ≡ None → get h.permits k ≡ Some p → get h.admissions p.admission ≡ Some r → Acts (FsEnd k) 0 (admissions.end_permit h k p r)
+      ends_permit : (p : SharePermit) (r : Admission) → get h.futures k ≡ None → get h.permits k ≡ Some p → get h.admissions p.admission ≡ Some r → Acts (End k) 0 (admissions.end_permit h k p r)
       ends_permit p r none is there =
           let r1 = with_share r p.key (released (share_at r.shares p.key)) in
           record {
@@ -291,7 +288,7 @@ module _ (h : ShareHall) (i : ℕ) where
             over = λ g ended. ap (get h.futures) (sym (eqb-true k g ended)) ∙ none;
           }
 
-      ends_at : (x : ShareFuture) (r : Admission) (p : Option ℕ) → get h.futures k ≡ Some x → get h.admissions x.admission ≡ Some r → x.number ≡ p → Acts (FsEnd k) 0 (admissions.end_at (record h { futures = remove h.futures k }) x r p)
+      ends_at : (x : ShareFuture) (r : Admission) (p : Option ℕ) → get h.futures k ≡ Some x → get h.admissions x.admission ≡ Some r → x.number ≡ p → Acts (End k) 0 (admissions.end_at (record h { futures = remove h.futures k }) x r p)
       ends_at x r None is there new = record {
         f = k;
         touches = Ends (eq-eqb k k refl);
@@ -301,7 +298,7 @@ module _ (h : ShareHall) (i : ℕ) where
         permits = Stay;
         over = over_by k;
       }
-      ends_at x r (Some n) is there number = by_if (Acts (FsEnd k) 0) (is_some (get (share_at r.shares x.key).waiting n)) _ _
+      ends_at x r (Some n) is there number = by_if (Acts (End k) 0) (is_some (get (share_at r.shares x.key).waiting n)) _ _
           (λ waits. record {
             f = k;
             touches = Ends (eq-eqb k k refl);
@@ -327,49 +324,41 @@ module _ (h : ShareHall) (i : ℕ) where
             over = over_by k;
           })
 
-      ends_future : (x : ShareFuture) (o : Option Admission) → get h.futures k ≡ Some x → get h.admissions x.admission ≡ o → Acts (FsEnd k) 0 (admissions.end_future h k x o)
+      ends_future : (x : ShareFuture) (o : Option Admission) → get h.futures k ≡ Some x → get h.admissions x.admission ≡ o → Acts (End k) 0 (admissions.end_future h k x o)
       ends_future x None is there = record { f = k; touches = Ends (eq-eqb k k refl); admissions = Same (λ o j. refl); futures = Ended; permits = Stay; over = over_by k }
       ends_future x (Some r) is there = ends_at x r x.number is there refl
 
-      ends_by : (o : Option ShareFuture) → get h.futures k ≡ o → Acts (FsEnd k) 0 (end_by h k o)
-      ends_by None none = by_found (Acts (FsEnd k) 0) (get h.permits k) h _ nothing (λ p is. by_found (Acts (FsEnd k) 0) (get h.admissions p.admission) h _ nothing (λ r there. ends_permit p r none is there))
+      ends_by : (o : Option ShareFuture) → get h.futures k ≡ o → Acts (End k) 0 (end_by h k o)
+      ends_by None none = by_found (Acts (End k) 0) (get h.permits k) h _ nothing (λ p is. by_found (Acts (End k) 0) (get h.admissions p.admission) h _ nothing (λ r there. ends_permit p r none is there))
         where
-          nothing : Acts (FsEnd k) 0 (quietly h answers.Done)
+          nothing : Acts (End k) 0 (quietly h answers.Done)
           nothing = record { f = k; touches = Ends (eq-eqb k k refl); admissions = Same (λ o j. refl); futures = Kept; permits = Stay; over = λ g ended. ap (get h.futures) (sym (eqb-true k g ended)) ∙ none }
       ends_by (Some x) is = ends_future x (get h.admissions x.admission) is refl
 
-    -- ---- each event
-    known_named : (s : ℕ) → unknown_unless (admissions.is_named h s) ≡ None → IsSome (get h.admissions s)
-    known_named s is = by_value (get h.admissions s) is
+    -- ---- each action
+    known_named : (o : ℕ) → unknown_unless (admissions.is_named h o) ≡ None → IsSome (get h.admissions o)
+    known_named o is = by_value (get h.admissions o) is
       where
-        by_value : (o : Option Admission) → unknown_unless (admissions.is_named_one o) ≡ None → IsSome o
+        by_value : (p : Option Admission) → unknown_unless (admissions.is_named_one p) ≡ None → IsSome p
         by_value None is = absurd (cc)
         by_value (Some r) is = refl
 
-    none_ends : (e : ShareEvent) → ((g : ℕ) → ends e g ≡ false) → (g : ℕ) → ends e g ≡ true → ⊥
-    none_ends e never g is = absurd (let not = never g in cc)
+    looks : (a : Action) → ((g : ℕ) → ends_in a g ≡ true → ⊥) → (o : ℕ) (act : Admission → Outcome ShareHall) → ((r : Admission) → get h.admissions o ≡ Some r → Acts a 0 (act r)) → Acts a 0 (found (get h.admissions o) h act)
+    looks a none o act does = by_found (Acts a 0) (get h.admissions o) h act (still a none 0 answers.Done) does
 
-    looks : (e : ShareEvent) → ((g : ℕ) → ends e g ≡ false) → (s : ℕ) (act : Admission → Outcome ShareHall) → ((r : Admission) → get h.admissions s ≡ Some r → Acts e 0 (act r)) → Acts e 0 (found (get h.admissions s) h act)
-    looks e never s act does = by_found (Acts e 0) (get h.admissions s) h act (still e (none_ends e never) 0 answers.Done) does
-
-    begins_one : (e : ShareEvent) → ((g : ℕ) → ends e g ≡ false) → (s k : ℕ) (plain : Bool) → (cause_of h e ≡ None → IsSome (get h.admissions s)) → Acts e 0 (admissions.begin h i s k plain)
-    begins_one e never s k plain known = record { f = i; touches = Fresh refl; admissions = Same (λ o j. refl); futures = Begun (record { admission = s; key = k; plain = plain; number = None }) refl known; permits = Stay; over = λ g is. absurd (none_ends e never g is) }
-
-    pub acts : (e : ShareEvent) → Acts e (cond (registers e) 1 0) (step h i e)
-    acts (FsNew n) = record { f = i; touches = Fresh refl; admissions = Made n refl; futures = Kept; permits = Stay; over = λ g is. absurd (none_ends (FsNew n) (λ g. refl) g is) }
-    acts (FsFree s) = looks (FsFree s) (λ g. refl) s _ (λ r is. still (FsFree s) (none_ends (FsFree s) (λ g. refl)) 0 _)
-    acts (FsWaiters s) = looks (FsWaiters s) (λ g. refl) s _ (λ r is. still (FsWaiters s) (none_ends (FsWaiters s) (λ g. refl)) 0 _)
-    acts (FsTry s k) = looks (FsTry s k) (λ g. refl) s _ (λ r is. tries (FsTry s k) (none_ends (FsTry s k) (λ g. refl)) s k true r is)
-    acts (FsTryo s k) = looks (FsTryo s k) (λ g. refl) s _ (λ r is. tries (FsTryo s k) (none_ends (FsTryo s k) (λ g. refl)) s k false r is)
-    acts (FsAcq s k) = begins_one (FsAcq s k) (λ g. refl) s k true (known_named s)
-    acts (FsAcqo s k) = begins_one (FsAcqo s k) (λ g. refl) s k false (known_named s)
-    acts (FsPoll f w) =
-        let none = none_ends (FsPoll f w) (λ g. refl) in
-        by_found (Acts (FsPoll f w) 1) (get h.futures f) h _ (still (FsPoll f w) none 1 answers.Done)
-        (λ x is. by_found (Acts (FsPoll f w) 1) (get h.admissions x.admission) h _ (still (FsPoll f w) none 1 answers.Done)
-        (λ r there. polls (FsPoll f w) none f w x r x.number (ap (λ b. cond b (Some w) None) (eq-eqb f f refl)) is there refl))
-    acts (FsKey p) = by_found (Acts (FsKey p) 0) (get h.permits p) h _ (still (FsKey p) (none_ends (FsKey p) (λ g. refl)) 0 answers.Done) (λ x is. still (FsKey p) (none_ends (FsKey p) (λ g. refl)) 0 _)
-    acts (FsEnd x) = ends_by x (get h.futures x) refl
-    acts (FsDrop s) = looks (FsDrop s) (λ g. refl) s _ (λ r is. drops (FsDrop s) (none_ends (FsDrop s) (λ g. refl)) s r is)
-    acts (FsWeight s k n) = looks (FsWeight s k n) (λ g. refl) s _ (λ r is. weighs_key (FsWeight s k n) (none_ends (FsWeight s k n) (λ g. refl)) s k n r is)
-    acts (FsWeightof s k) = looks (FsWeightof s k) (λ g. refl) s _ (λ r is. still (FsWeightof s k) (none_ends (FsWeightof s k) (λ g. refl)) 0 _)
+    pub acts : (a : Action) → Acts a (cond (registers_in a) 1 0) (act_in h i a)
+    acts (Make n) = record { f = i; touches = Fresh refl; admissions = Made n refl; futures = Kept; permits = Stay; over = λ g is. absurd (cc) }
+    acts (Free o) = looks (Free o) (λ g is. absurd (cc)) o _ (λ r is. still (Free o) (λ g is. absurd (cc)) 0 _)
+    acts (Waiters o) = looks (Waiters o) (λ g is. absurd (cc)) o _ (λ r is. still (Waiters o) (λ g is. absurd (cc)) 0 _)
+    acts (Weight o k) = looks (Weight o k) (λ g is. absurd (cc)) o _ (λ r is. still (Weight o k) (λ g is. absurd (cc)) 0 _)
+    acts (Weigh o k n) = looks (Weigh o k n) (λ g is. absurd (cc)) o _ (λ r is. weighs_key (Weigh o k n) (λ g is. absurd (cc)) o k n r is)
+    acts (Try o k plain) = looks (Try o k plain) (λ g is. absurd (cc)) o _ (λ r is. tries (Try o k plain) (λ g is. absurd (cc)) o k plain r is)
+    acts (Begin o k plain) = record { f = i; touches = Fresh refl; admissions = Same (λ q j. refl); futures = Begun (record { admission = o; key = k; plain = plain; number = None }) refl (known_named o); permits = Stay; over = λ g is. absurd (cc) }
+    acts (Poll f w) =
+        let none : (g : ℕ) → ends_in (Poll f w) g ≡ true → ⊥ = λ g is. absurd (cc) in
+        by_found (Acts (Poll f w) 1) (get h.futures f) h _ (still (Poll f w) none 1 answers.Done)
+        (λ x is. by_found (Acts (Poll f w) 1) (get h.admissions x.admission) h _ (still (Poll f w) none 1 answers.Done)
+        (λ r there. polls (Poll f w) none f w x r x.number (ap (λ b. cond b (Some w) None) (eq-eqb f f refl)) is there refl))
+    acts (Key p) = by_found (Acts (Key p) 0) (get h.permits p) h _ (still (Key p) (λ g is. absurd (cc)) 0 answers.Done) (λ x is. still (Key p) (λ g is. absurd (cc)) 0 _)
+    acts (End x) = ends_by x (get h.futures x) refl
+    acts (Drop o) = looks (Drop o) (λ g is. absurd (cc)) o _ (λ r is. drops (Drop o) (λ g is. absurd (cc)) o r is)

@@ -9,10 +9,10 @@ use Rattle.mea_base.proofs.Totals.{total-zero}
 use Rattle.mea_by_name.specs.ByName.{Names, count}
 use Rattle.mea_by_name.proofs.OneObject.{IsBelow, below_put, below_gone, below_later}
 use Rattle.mea_share_core.specs.Share.{Share, new_share}
-use Rattle.mea_events.specs.declared.share_event.ShareEvent.{ShareEvent}
 use Rattle.mea_share_model.specs.Next.{share_at}
 use Rattle.mea_share_model.specs.Admissions.{Admission, ShareFuture, SharePermit, ShareHall, empty_hall, new_admission}
-use Rattle.mea_share_model.specs.Meaning.{cause_of, step, registers}
+use Rattle.mea_share_model.specs.Actions.{Action, cause_in, act_in, registers_in}
+use Rattle.mea_share_model.specs.Meaning.{meaning_of}
 use Rattle.mea_share_model.specs.ShareFamily.{shares_family}
 use Rattle.mea_share_model.specs.Valid.{is_of, HasNumber, HasAt, AreValid}
 use Rattle.mea_share_model.proofs.Acting.{AdmissionsGo, Same, Put, Made, Gone, FuturesGo, Kept, Begun, Queued, Ended, PermitsGo, Stay, Come, Leave, Acts, acts, none_next}
@@ -51,9 +51,9 @@ module _ (h : ShareHall) (n i : ℕ) (low : AreLow h n) (later : n ≤ i) where
   of_none k = total-zero (λ q x. cond (is_of i k x) 1 0) h.permits (λ q x is.
       ap (λ b. cond (b && (x.key == k)) 1 0) (ne_eqb x.admission i (λ same. absurd (let small = (low.permits q x is).1 in omega (arith, small, later, same)))))
 
-  module _ (valid : AreValid h) (e : ShareEvent) (none : cause_of h e ≡ None) where
-    pub did : Acts h i e (cond (registers e) 1 0) (step h i e)
-    did = acts h i valid no_future no_permit e
+  module _ (valid : AreValid h) (a : Action) (none : cause_in h a ≡ None) where
+    pub did : Acts h i a (cond (registers_in a) 1 0) (act_in h i a)
+    did = acts h i valid no_future no_permit a
 
     -- ---- names
     low_admissions : (f extra : ℕ) (xs : Names ShareFuture) (ps : Names SharePermit) (rs : Names Admission) (ws : List ℕ) → AdmissionsGo h i f extra xs ps rs ws → IsBelow rs (i + 1)
@@ -62,7 +62,7 @@ module _ (h : ShareHall) (n i : ℕ) (low : AreLow h n) (later : n ≤ i) where
     low_admissions f extra xs ps _ _ (Made m same) = below_put h.admissions n i i (new_admission m) low.admissions later (omega arith)
     low_admissions f extra xs ps _ _ (Gone o r r' ws there few alone elsewhere) = below_gone h.admissions n i o low.admissions later
 
-    low_futures : (f : ℕ) (rs : Names Admission) (xs : Names ShareFuture) → FuturesGo h i e f rs xs → (g : ℕ) (x : ShareFuture) → get xs g ≡ Some x → (g < i + 1) × (x.admission < i + 1)
+    low_futures : (f : ℕ) (rs : Names Admission) (xs : Names ShareFuture) → FuturesGo h i a f rs xs → (g : ℕ) (x : ShareFuture) → get xs g ≡ Some x → (g < i + 1) × (x.admission < i + 1)
     low_futures f rs _ Kept g x is = let small = low.futures g x is in (omega (arith, small.0, later), omega (arith, small.1, later))
     low_futures f rs _ (Begun y new known) g x is = by_put h.futures i y (λ g o. o ≡ Some x → (g < i + 1) × (x.admission < i + 1))
         (λ is. let same : y.admission ≡ x.admission = ap (λ (z : ShareFuture). z.admission) (inside is) in let r = value_in (get h.admissions y.admission) (known none) in let small = low.admissions.at y.admission r.0 r.1 in (omega arith, omega (arith, same, small, later)))
@@ -79,7 +79,7 @@ module _ (h : ShareHall) (n i : ℕ) (low : AreLow h n) (later : n ≤ i) where
         (λ p apart is. let small = low.permits p x is in (omega (arith, small.0, later), omega (arith, small.1, later))) p is
     low_permits _ (Leave k) p x is = let small = low.permits p x (removed_there h.permits k p x is) in (omega (arith, small.0, later), omega (arith, small.1, later))
 
-    pub low_after : AreLow (step h i e).hall (i + 1)
+    pub low_after : AreLow (act_in h i a).hall (i + 1)
     low_after = record {
       admissions = low_admissions did.f _ _ _ _ _ did.admissions;
       futures = low_futures did.f _ _ did.futures;
@@ -139,7 +139,7 @@ module _ (h : ShareHall) (n i : ℕ) (low : AreLow h n) (later : n ≤ i) where
     has_after f extra xs ps _ _ (Gone p q q' ws there few alone elsewhere) g z m was is of =
         subst (λ t. HasAt t z.key m) (sym (get-removed_other h.admissions p z.admission (λ mine. alone g z is mine))) (valid.there g z m was of)
 
-    there_after : (f extra : ℕ) (ps : Names SharePermit) (rs : Names Admission) (ws : List ℕ) (xs : Names ShareFuture) → AdmissionsGo h i f extra xs ps rs ws → FuturesGo h i e f rs xs
+    there_after : (f extra : ℕ) (ps : Names SharePermit) (rs : Names Admission) (ws : List ℕ) (xs : Names ShareFuture) → AdmissionsGo h i f extra xs ps rs ws → FuturesGo h i a f rs xs
         → (g : ℕ) (z : ShareFuture) (m : ℕ) → get xs g ≡ Some z → z.number ≡ Some m → HasAt (get rs z.admission) z.key m
     there_after f extra ps rs ws _ went Kept g z m is of = has_after f extra h.futures ps rs ws went g z m is is of
     there_after f extra ps rs ws _ went (Begun y new known) g z m is of = by_name i g
@@ -156,7 +156,7 @@ module _ (h : ShareHall) (n i : ℕ) (low : AreLow h n) (later : n ≤ i) where
     no_number : (m : ℕ) → ◌≡◌ {A = Option ℕ} None (Some m) → ⊥
     no_number m is = absurd (cc)
 
-    apart_after : (f : ℕ) (rs : Names Admission) (xs : Names ShareFuture) → FuturesGo h i e f rs xs
+    apart_after : (f : ℕ) (rs : Names Admission) (xs : Names ShareFuture) → FuturesGo h i a f rs xs
         → (g j : ℕ) (x y : ShareFuture) (m : ℕ) → get xs g ≡ Some x → get xs j ≡ Some y → x.admission ≡ y.admission → x.number ≡ Some m → y.number ≡ Some m → g ≡ j
     apart_after f rs _ Kept g j x y m first second same one two = valid.apart g j x y m first second same one two
     apart_after f rs _ (Begun z new known) g j x y m first second same one two =
@@ -192,7 +192,7 @@ module _ (h : ShareHall) (n i : ℕ) (low : AreLow h n) (later : n ≤ i) where
     living_after f extra xs ps _ _ (Gone p q q' ws there few alone elsewhere) o k r is =
         by_gone h.admissions p (λ o t. t ≡ Some r → (share_at r.shares k).living ≡ count (is_of o k) ps) (λ is. absurd (cc)) (λ o apart is. valid.living o k r is ∙ sym (elsewhere o k apart)) o is
 
-    pub valid_after : AreValid (step h i e).hall
+    pub valid_after : AreValid (act_in h i a).hall
     valid_after = record {
       below = below_after did.f _ _ _ _ _ did.admissions;
       once = once_after did.f _ _ _ _ _ did.admissions;
@@ -222,4 +222,4 @@ pub reached : (r : RunOf shares_family) → IsRun shares_family r → AreLow r.h
 reached _ Starts = (low_start, valid_start)
 reached _ (Goes r i e runs later none) =
     let before = reached r runs in
-    (low_after r.hall r.next i before.0 later before.1 e none, valid_after r.hall r.next i before.0 later before.1 e none)
+    (low_after r.hall r.next i before.0 later before.1 (meaning_of e) none, valid_after r.hall r.next i before.0 later before.1 (meaning_of e) none)

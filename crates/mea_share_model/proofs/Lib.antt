@@ -3,6 +3,7 @@ pub mod Changes
 pub mod Acting
 pub mod Keeping
 pub mod Wakers
+pub mod Doing
 pub mod Counts
 pub mod Orders
 pub mod Least

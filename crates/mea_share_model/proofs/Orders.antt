@@ -1,21 +1,18 @@
 -- who is admitted is next
-use Rattle.std.proofs.Common.{◌≡◌, ℕ, ◌==◌, inl, inr, Bool, [], Option, Some, None, is_some, refl, ap, ◌∙◌}
-use Rattle.std.specs.FinMap.{get, remove}
+use Rattle.std.proofs.Common.{◌≡◌, ℕ, inl, inr, [], Option, Some, None, refl, ap, ◌∙◌}
+use Rattle.std.specs.FinMap.{get}
 use Rattle.mea_family.specs.declared.answer.Answer.TheVariants as answers
 use Rattle.mea_family.specs.Family.{Outcome}
-use Rattle.mea_family.specs.Play.{found}
-use Rattle.mea_by_name.proofs.Cases.{by_found, by_if}
-use Rattle.mea_share_core.specs.Share.{Share, released, given_up}
+use Rattle.mea_share_core.specs.Share.{Share}
 use Rattle.mea_events.specs.declared.share_event.ShareEvent.{ShareEvent}
-use Rattle.mea_events.specs.declared.share_event.ShareEvent.TheVariants.{FsNew, FsFree, FsWaiters, FsTry, FsTryo, FsAcq, FsAcqo, FsPoll, FsKey, FsEnd, FsDrop, FsWeight, FsWeightof}
-use Rattle.mea_share_model.specs.Next.{Waiter, share_at, next_of}
-use Rattle.mea_share_model.specs.Admissions as admissions
-use Rattle.mea_share_model.specs.Admissions.{Admission, ShareFuture, ShareHall, with_share, passed, woken, tidied, gives_back}
-use Rattle.mea_share_model.specs.Meaning.{step, end_by}
+use Rattle.mea_share_model.specs.Next.{Waiter, next_of}
+use Rattle.mea_share_model.specs.Admissions.{Admission, ShareHall, with_share, passed, woken, tidied, gives_back}
+use Rattle.mea_share_model.specs.Meaning.{meaning_of, step}
 use Rattle.mea_share_model.specs.Order.{IsInOrder}
 use Rattle.mea_share_model.proofs.Waiting.{next_is}
+use Rattle.mea_share_model.proofs.Doing.{Does, Rests, Makes, Leaves, Gives, does}
 
-module _ (h : ShareHall) (i : ℕ) where
+module _ (h : ShareHall) where
   gives : (rest : ShareHall) (o : ℕ) (r : Admission) (k : ℕ) (s : Share ℕ) → get h.admissions o ≡ Some r → IsInOrder h (gives_back rest o (with_share r k s))
   gives rest o r k s there = at (next_of (with_share r k s).shares) refl
     where
@@ -43,40 +40,11 @@ module _ (h : ShareHall) (i : ℕ) where
             },
           )
 
-  looks : (s : ℕ) (act : Admission → Outcome ShareHall) → ((r : Admission) → (act r).wakes ≡ []) → IsInOrder h (found (get h.admissions s) h act)
-  looks s act quiet = by_found (IsInOrder h) (get h.admissions s) h act (inl refl) (λ r is. inl (quiet r))
+  done_in_order : (i extra : ℕ) (allowed : Type 0) (out : Outcome ShareHall) → Does h i extra allowed out → IsInOrder h out
+  done_in_order i extra allowed _ (Rests out same silent) = inl silent
+  done_in_order i extra allowed _ (Makes n) = inl refl
+  done_in_order i extra allowed _ (Leaves o r r' out there turns left silent) = inl silent
+  done_in_order i extra allowed _ (Gives xs ps o r k s there weight waits) = gives (record { admissions = h.admissions; futures = xs; permits = ps }) o r k s there
 
-  tries : (o k : ℕ) (plain : Bool) (r : Admission) → (admissions.try h i o k plain r).wakes ≡ []
-  tries o k plain r = by_if (λ (out : Outcome ShareHall). out.wakes ≡ []) (r.free == 0) _ _ (λ none. refl) (λ some. refl)
-
-  polls : (f w : ℕ) (x : ShareFuture) (r : Admission) (p : Option ℕ) → (admissions.poll_at h i f w x r p).wakes ≡ []
-  polls f w x r None = by_if (λ (out : Outcome ShareHall). out.wakes ≡ []) (r.free == 0) _ _ (λ none. refl) (λ some. refl)
-  polls f w x r (Some n) = by_if (λ (out : Outcome ShareHall). out.wakes ≡ []) (is_some (get (share_at r.shares x.key).waiting n)) _ _ (λ waits. refl) (λ was. refl)
-
-  ends_at : (k : ℕ) (x : ShareFuture) (r : Admission) (p : Option ℕ) → get h.admissions x.admission ≡ Some r → IsInOrder h (admissions.end_at (record h { futures = remove h.futures k }) x r p)
-  ends_at k x r None there = inl refl
-  ends_at k x r (Some n) there = by_if (IsInOrder h) (is_some (get (share_at r.shares x.key).waiting n)) _ _ (λ waits. inl refl) (λ was. gives (record h { futures = remove h.futures k }) x.admission r x.key (given_up (share_at r.shares x.key) n) there)
-
-  ends_future : (k : ℕ) (x : ShareFuture) (o : Option Admission) → get h.admissions x.admission ≡ o → IsInOrder h (admissions.end_future h k x o)
-  ends_future k x None there = inl refl
-  ends_future k x (Some r) there = ends_at k x r x.number there
-
-  ends_by : (k : ℕ) (o : Option ShareFuture) → IsInOrder h (end_by h k o)
-  ends_by k None = by_found (IsInOrder h) (get h.permits k) h _ (inl refl) (λ p is. by_found (IsInOrder h) (get h.admissions p.admission) h _ (inl refl)
-      (λ r there. gives (record h { permits = remove h.permits k }) p.admission r p.key (released (share_at r.shares p.key)) there))
-  ends_by k (Some x) = ends_future k x (get h.admissions x.admission) refl
-
-  pub in_order : (e : ShareEvent) → IsInOrder h (step h i e)
-  in_order (FsNew n) = inl refl
-  in_order (FsFree s) = looks s _ (λ r. refl)
-  in_order (FsWaiters s) = looks s _ (λ r. refl)
-  in_order (FsTry s k) = looks s _ (tries s k _)
-  in_order (FsTryo s k) = looks s _ (tries s k _)
-  in_order (FsAcq s k) = inl refl
-  in_order (FsAcqo s k) = inl refl
-  in_order (FsPoll f w) = by_found (IsInOrder h) (get h.futures f) h _ (inl refl) (λ x is. looks x.admission _ (λ r. polls f w x r x.number))
-  in_order (FsKey p) = by_found (IsInOrder h) (get h.permits p) h _ (inl refl) (λ x is. inl refl)
-  in_order (FsEnd x) = ends_by x (get h.futures x)
-  in_order (FsDrop s) = looks s _ (λ r. refl)
-  in_order (FsWeight s k n) = looks s _ (λ r. refl)
-  in_order (FsWeightof s k) = looks s _ (λ r. refl)
+pub in_order : (h : ShareHall) (i : ℕ) (e : ShareEvent) → IsInOrder h (step h i e)
+in_order h i e = done_in_order h i _ _ _ (does h i (meaning_of e))

@@ -1,5 +1,6 @@
 pub mod Next
 pub mod Admissions
+pub mod Actions
 pub mod Meaning
 pub mod ShareFamily
 pub mod Valid

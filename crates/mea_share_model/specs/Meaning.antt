@@ -1,59 +1,33 @@
 -- what each line does, and why it is refused
-use Rattle.std.specs.Prelude.{ℕ, ◌==◌, Bool, true, false, Option, Some, None, nat_lt, if◌then◌else◌}
-use Rattle.std.specs.FinMap.{get}
-use Rattle.mea_family.specs.declared.answer.Answer.TheVariants as answers
+use Rattle.std.specs.Prelude.{ℕ, Bool, true, false, Option}
 use Rattle.mea_family.specs.declared.stop.Stop.{Stop}
-use Rattle.mea_family.specs.declared.stop.Stop.TheVariants as stops
-use Rattle.mea_family.specs.Causes.{unknown_unless}
-use Rattle.mea_family.specs.Family.{Outcome, quietly}
-use Rattle.mea_family.specs.Play.{found}
+use Rattle.mea_family.specs.Family.{Outcome}
 use Rattle.mea_events.specs.declared.share_event.ShareEvent.{ShareEvent}
 use Rattle.mea_events.specs.declared.share_event.ShareEvent.TheVariants.{FsNew, FsFree, FsWaiters, FsTry, FsTryo, FsAcq, FsAcqo, FsPoll, FsKey, FsEnd, FsDrop, FsWeight, FsWeightof}
-use Rattle.mea_share_model.specs.Next.{share_at, waiting_in}
-use Rattle.mea_share_model.specs.Admissions as admissions
-use Rattle.mea_share_model.specs.Admissions.{ShareHall, ShareFuture, is_named, is_future, is_permit, plain_of}
+use Rattle.mea_share_model.specs.Admissions.{ShareHall}
+use Rattle.mea_share_model.specs.Actions.{Action, Make, Free, Waiters, Weight, Weigh, Try, Begin, Poll, Key, End, Drop, cause_in, act_in, registers_in}
 
--- unknown, unless this is known; and then refused where that holds
-abbrev pub refused_if : Bool → Bool → Stop → Option Stop
-refused_if known bad stop = if known then (if bad then Some stop else None) else Some stops.Unknown
+abbrev pub meaning_of : ShareEvent → Action
+meaning_of (FsNew n) = Make n
+meaning_of (FsFree s) = Free s
+meaning_of (FsWaiters s) = Waiters s
+meaning_of (FsTry s k) = Try s k true
+meaning_of (FsTryo s k) = Try s k false
+meaning_of (FsAcq s k) = Begin s k true
+meaning_of (FsAcqo s k) = Begin s k false
+meaning_of (FsPoll f w) = Poll f w
+meaning_of (FsKey p) = Key p
+meaning_of (FsEnd x) = End x
+meaning_of (FsDrop s) = Drop s
+meaning_of (FsWeight s k n) = Weigh s k n
+meaning_of (FsWeightof s k) = Weight s k
 
 abbrev pub cause_of : ShareHall → ShareEvent → Option Stop
-cause_of h (FsNew n) = if n == 0 then Some stops.Zero else None
-cause_of h (FsFree s) = unknown_unless (is_named h s)
-cause_of h (FsWaiters s) = unknown_unless (is_named h s)
-cause_of h (FsTry s k) = unknown_unless (is_named h s)
-cause_of h (FsTryo s k) = unknown_unless (is_named h s)
-cause_of h (FsAcq s k) = unknown_unless (is_named h s)
-cause_of h (FsAcqo s k) = unknown_unless (is_named h s)
-cause_of h (FsPoll f w) = unknown_unless (is_future h f)
-cause_of h (FsKey p) = unknown_unless (is_permit h p)
-cause_of h (FsEnd x) = unknown_unless (if is_future h x then true else is_permit h x)
-cause_of h (FsDrop s) = refused_if (is_named h s) (nat_lt 0 (plain_of h s)) stops.Borrowed
-cause_of h (FsWeight s k n) = refused_if (is_named h s) (n == 0) stops.Zero
-cause_of h (FsWeightof s k) = unknown_unless (is_named h s)
+cause_of h e = cause_in h (meaning_of e)
 
--- the end of a future, or else of a permit
-abbrev pub end_by : ShareHall → ℕ → Option ShareFuture → Outcome ShareHall
-end_by h x None = found (get h.permits x) h (λ p. found (get h.admissions p.admission) h (admissions.end_permit h x p))
-end_by h x (Some f) = admissions.end_future h x f (get h.admissions f.admission)
-
--- what is done under number i
 abbrev pub step : ShareHall → ℕ → ShareEvent → Outcome ShareHall
-step h i (FsNew n) = admissions.make h i n
-step h i (FsFree s) = found (get h.admissions s) h (λ r. quietly h (answers.Free r.free))
-step h i (FsWaiters s) = found (get h.admissions s) h (λ r. quietly h (answers.Count (waiting_in r.shares)))
-step h i (FsTry s k) = found (get h.admissions s) h (admissions.try h i s k true)
-step h i (FsTryo s k) = found (get h.admissions s) h (admissions.try h i s k false)
-step h i (FsAcq s k) = admissions.begin h i s k true
-step h i (FsAcqo s k) = admissions.begin h i s k false
-step h i (FsPoll f w) = found (get h.futures f) h (λ x. found (get h.admissions x.admission) h (admissions.poll h i f w x))
-step h i (FsKey p) = found (get h.permits p) h (λ x. quietly h (answers.Key x.key))
-step h i (FsEnd x) = end_by h x (get h.futures x)
-step h i (FsDrop s) = found (get h.admissions s) h (admissions.drop h s)
-step h i (FsWeight s k n) = found (get h.admissions s) h (admissions.weigh h s k n)
-step h i (FsWeightof s k) = found (get h.admissions s) h (λ r. quietly h (answers.Count (share_at r.shares k).weight))
+step h i e = act_in h i (meaning_of e)
 
 -- whether an event can register a waker; a poll alone can
 abbrev pub registers : ShareEvent → Bool
-registers (FsPoll f w) = true
-registers _ = false
+registers e = registers_in (meaning_of e)
