@@ -6,9 +6,9 @@ use Rattle.std.proofs.lemmas.Bool.Decides.{nat_tests}
 use Rattle.futures.specs.declared.task.Poll.{Poll}
 use Rattle.futures.specs.declared.task.Poll.TheVariants.{Ready, Pending}
 use Rattle.mea_family.specs.declared.answer.Answer.TheVariants as answers
-use Rattle.mea_family.specs.declared.stop.Stop.TheVariants.{Unknown, Borrowed, Zero}
+use Rattle.mea_family.specs.declared.stop.Stop.TheVariants.{Unknown}
 use Rattle.mea_family.specs.Family.{Outcome, quietly}
-use Rattle.mea_family.specs.Causes.{unknown_unless}
+use Rattle.mea_family.specs.Causes.{unknown_unless, borrowed_by}
 use Rattle.mea_base.specs.Ready.{Waking}
 use Rattle.mea_base.specs.Totals.{weight}
 use Rattle.mea_base.proofs.Maps.{inside, is_there, value_in, by_put, removed_there, is_absent}
@@ -23,28 +23,27 @@ use Rattle.mea_share_core.specs.declared.share_acquire.ShareStage.TheVariants.{N
 use Rattle.mea_share_core.specs.Share.{Share, IsWaiting, IsAdmitted, taken, queued, left, readied, given_up, released, weighing}
 use Rattle.mea_share_core.specs.Groups.{held_in, waiting_in}
 use Rattle.mea_share_core.specs.Fair.{Fair, IsSettled, share_of, waiters_of, is_queued, Becomes, IsSame, GivesBack, Belongs, Polls, Cancels}
-use Rattle.mea_events.specs.declared.share_event.ShareEvent.{ShareEvent}
-use Rattle.mea_events.specs.declared.share_event.ShareEvent.TheVariants.{FsTry, FsTryo, FsAcq, FsAcqo, FsPoll, FsEnd, FsDrop, FsWeight}
 use Rattle.mea_share_model.specs.Next.{share_at, put_share, next_of}
 use Rattle.mea_share_model.specs.Admissions as model
 use Rattle.mea_share_model.specs.Admissions.{Admission, ShareFuture, SharePermit, ShareHall, registered, with_share, passed, woken, tidied_admissions, things_of, plain_of, is_named, is_named_one, is_permit}
-use Rattle.mea_share_model.specs.Meaning.{cause_of, step, end_by, refused_if}
+use Rattle.mea_share_model.specs.Actions as actions
+use Rattle.mea_share_model.specs.Actions.{Action, Weigh, Begin, Try, End, Drop, zero_by, cause_in, act_in, end_by}
 use Rattle.mea_share_model.specs.Valid.{is_of as model_is_of, HasNumber, HasAt, AreValid}
 use Rattle.mea_share.specs.Kept.{KeptAdmission, KeptFuture, shares_seen, admission_seen, number_of, future_seen, hall_seen, AreGood, AreKept, of_future, of_permit, size_of, AreKeptAdmissions}
 use Rattle.mea_share.specs.Entries.{begun, finished, is_over, Takes, Weighs, PollsEntry, HandsOn, EndsWait, Releases}
-use Rattle.mea_share.specs.Acts.{Begins, Tries}
 use Rattle.mea_share.proofs.Seen.{share_seen, alike_seen, Tallies, tallies_sets, tallies_alike, passes_seen}
 use Rattle.mea_base.proofs.Tests.{over_is}
 use Rattle.mea_share_model.proofs.Acting.{passed_next}
+use Rattle.mea_share.proofs.LookUps.{may_poll}
 use Rattle.mea_share.proofs.Sites.{Did, DidWake, HallOf, Owned, Site, all_waiters, becomes_seen, good_becomes, good_with_future, good_with_permit, good_without_future, good_without_permit, nameless, part_of, passes_sums, plain_is, rests_as, stays, waited, waiters, yields_as}
 
 module _ {old : Part ShareHall} {i : ℕ} (s : Site old i) where
-  pub drop_unknown : (o : ℕ) → get s.es o ≡ None → cause_of (hall_seen s.es s.fs s.ps) (FsDrop o) ≡ Some Unknown
-  drop_unknown o none = ap (λ b. refused_if b (nat_lt 0 (plain_of (hall_seen s.es s.fs s.ps) o)) Borrowed) (nameless s o none)
+  pub drop_unknown : (o : ℕ) → get s.es o ≡ None → cause_in (hall_seen s.es s.fs s.ps) (Drop o) ≡ Some Unknown
+  drop_unknown o none = ap (λ b. borrowed_by b (plain_of (hall_seen s.es s.fs s.ps) o)) (nameless s o none)
 
   -- ---- one admission
   module _ (o : ℕ) (e : KeptAdmission) (there : get s.es o ≡ Some e) where
-    good : AreGood e (own of_future o s.fs) (own of_permit o s.ps)
+    pub good : AreGood e (own of_future o s.fs) (own of_permit o s.ps)
     good = (s.kept.hall.each o e there).good
 
     was_owned : Owned e (own of_future o s.fs) (own of_permit o s.ps)
@@ -60,14 +59,14 @@ module _ {old : Part ShareHall} {i : ℕ} (s : Site old i) where
     named_at : is_named (hall_seen s.es s.fs s.ps) o ≡ e.named
     named_at = ap is_named_one seen_there
 
-    pub use_cause : unknown_unless (is_named (hall_seen s.es s.fs s.ps) o) ≡ unknown_unless e.named
-    use_cause = ap unknown_unless named_at
+    pub use_cause : (b : Bool) → e.named ≡ b → unknown_unless (is_named (hall_seen s.es s.fs s.ps) o) ≡ unknown_unless b
+    use_cause b is = ap unknown_unless (named_at ∙ is)
 
-    pub weight_cause : (k n : ℕ) → cause_of (hall_seen s.es s.fs s.ps) (FsWeight o k n) ≡ refused_if e.named (n == 0) Zero
-    weight_cause k n = ap (λ b. refused_if b (n == 0) Zero) named_at
+    pub weight_cause : (k n : ℕ) → cause_in (hall_seen s.es s.fs s.ps) (Weigh o k n) ≡ zero_by e.named n
+    weight_cause k n = ap (λ b. zero_by b n) named_at
 
-    pub drop_cause : cause_of (hall_seen s.es s.fs s.ps) (FsDrop o) ≡ refused_if e.named (nat_lt 0 e.plain) Borrowed
-    drop_cause = λ j. refused_if (named_at j) (nat_lt 0 (plain_is s.es s.fs s.ps o e good j)) Borrowed
+    pub drop_cause : cause_in (hall_seen s.es s.fs s.ps) (Drop o) ≡ borrowed_by e.named e.plain
+    drop_cause = λ j. borrowed_by (named_at j) (plain_is s.es s.fs s.ps o e good j)
 
     -- its counts are far below their greatest values
     pub few_things : (e.things + 1 < 2 ^ 128) × (e.plain + 1 < 2 ^ 128)
@@ -94,13 +93,13 @@ module _ {old : Part ShareHall} {i : ℕ} (s : Site old i) where
     same_put e' is = insert_same s.es o e' (there ∙ ap (λ d. Some d) (sym is))
 
     -- ---- a weight is set
-    pub weighs : (k n : ℕ) (e' : KeptAdmission) → cause_of (hall_seen s.es s.fs s.ps) (FsWeight o k n) ≡ None → Weighs e k n e' → Did s (FsWeight o k n) answers.Done (insert s.es o e') s.fs s.ps
+    pub weighs : (k n : ℕ) (e' : KeptAdmission) → cause_in (hall_seen s.es s.fs s.ps) (Weigh o k n) ≡ None → Weighs e k n e' → Did s (Weigh o k n) answers.Done (insert s.es o e') s.fs s.ps
     weighs k n e' none did =
         let becomes = did.becomes in
         let h = hall_seen s.es s.fs s.ps in
         let t = weighing (share_of nat_eq e.fair k) n in
         let size : size_of e' ≤ size_of e + 1 = let things = ap (λ (d : KeptAdmission). d.things) did.rest in omega (arith, things, becomes.number) in
-        rests_as s (FsWeight o k n) (model.weigh h o k n (admission_seen e)) answers.Done (insert s.es o e') s.fs s.ps
+        rests_as s (Weigh o k n) (model.weigh h o k n (admission_seen e)) answers.Done (insert s.es o e') s.fs s.ps
         none
         (step_is (model.weigh h o k n))
         (turn e' s.fs s.ps Stays Stays (good_becomes e e' _ _ k t e.fair.free e.fair.next good did.rest becomes did.settled) (omega (arith, was_owned, becomes.shares.held, becomes.shares.waiting)) size)
@@ -110,14 +109,14 @@ module _ {old : Part ShareHall} {i : ℕ} (s : Site old i) where
         (omega (arith, put_waiters e', becomes.shares.waiting))
 
     -- ---- a future is made
-    begun_as : (ev : ShareEvent) (k : ℕ) (plain : Bool) (x : KeptFuture) → x ≡ record { admission = o; key = k; stage = New; plain = plain } → cause_of (hall_seen s.es s.fs s.ps) ev ≡ None
-        → step (hall_seen s.es s.fs s.ps) i ev ≡ model.begin (hall_seen s.es s.fs s.ps) i o k plain → Did s ev answers.Made (insert s.es o (begun e plain)) (insert s.fs i x) s.ps
-    begun_as ev k plain x is none does =
+    pub begins_one : (plain : Bool) (k : ℕ) (x : KeptFuture) → cause_in (hall_seen s.es s.fs s.ps) (Begin o k plain) ≡ None → x ≡ record { admission = o; key = k; stage = New; plain = plain }
+        → Did s (Begin o k plain) answers.Made (insert s.es o (begun e plain)) (insert s.fs i x) s.ps
+    begins_one plain k x none is =
         let fresh = halls.no_first of_future of_permit AreKept size_of s.es s.fs s.ps s.next i s.kept.hall s.later s.fits in
         let mine : of_future x ≡ o = ap (λ (y : KeptFuture). y.admission) is in
         let stage : x.stage ≡ New = ap (λ (y : KeptFuture). y.stage) is in
         let as_seen : future_seen x ≡ record { admission = o; key = k; plain = plain; number = None } = ap future_seen is in
-        rests_as s ev (model.begin (hall_seen s.es s.fs s.ps) i o k plain) answers.Made (insert s.es o (begun e plain)) (insert s.fs i x) s.ps none does
+        rests_as s (Begin o k plain) (model.begin (hall_seen s.es s.fs s.ps) i o k plain) answers.Made (insert s.es o (begun e plain)) (insert s.fs i x) s.ps none refl
         (turn (begun e plain) (insert s.fs i x) s.ps (Comes i x (omega arith) mine (λ y there. absurd (let none = fresh in cc))) Stays
         (rw (own-put of_future o s.fs i x mine) (subst (λ b. AreGood (begun e b) (insert (own of_future o s.fs) i x) (own of_permit o s.ps)) (ap (λ (y : KeptFuture). y.plain) is)
         (good_with_future e (own of_future o s.fs) (own of_permit o s.ps) i x good (own-none of_future o s.fs i fresh) (λ done. absurd (let differ = sym stage ∙ done in cc)))))
@@ -128,11 +127,6 @@ module _ {old : Part ShareHall} {i : ℕ} (s : Site old i) where
         refl
         (omega (arith, put_waiters (begun e plain)))
 
-    pub begins_one : (plain : Bool) (k : ℕ) (x : KeptFuture) → unknown_unless (is_named (hall_seen s.es s.fs s.ps) o) ≡ None → x ≡ record { admission = o; key = k; stage = New; plain = plain }
-        → AreKeptAdmissions (insert s.es o (begun e plain)) (insert s.fs i x) s.ps (i + 1) × Begins old i o k plain (Ok answers.Made) (part_of (insert s.es o (begun e plain)) (insert s.fs i x) s.ps (i + 1))
-    begins_one true k x none is = begun_as (FsAcq o k) k true x is none refl
-    begins_one false k x none is = begun_as (FsAcqo o k) k false x is none refl
-
     -- nothing has changed
     pub unchanged : (e' : KeptAdmission) → e' ≡ e → AreKeptAdmissions (insert s.es o e') s.fs s.ps s.next × (◌≡◌ {A = Part ShareHall} (part_of (insert s.es o e') s.fs s.ps s.next) old)
     unchanged e' is = rw (same_put e' is) (s.kept, s.view)
@@ -141,10 +135,9 @@ module _ {old : Part ShareHall} {i : ℕ} (s : Site old i) where
     free_is : (r : Admission) → 0 < r.free → (r.free == 0) ≡ false
     free_is r some = grind (arith, nat_tests)
 
-    held_as : (ev : ShareEvent) (k : ℕ) (plain : Bool) (e' : KeptAdmission) → Takes e k true e' → cause_of (hall_seen s.es s.fs s.ps) ev ≡ None
-        → step (hall_seen s.es s.fs s.ps) i ev ≡ found (get (seen admission_seen s.es) o) (hall_seen s.es s.fs s.ps) (model.try (hall_seen s.es s.fs s.ps) i o k plain)
-        → Did s ev answers.Held (insert s.es o (begun e' plain)) s.fs (insert s.ps i (record { admission = o; key = k; plain = plain }))
-    held_as ev k plain e' takes none does =
+    pub holds_one : (plain : Bool) (k : ℕ) (e' : KeptAdmission) → cause_in (hall_seen s.es s.fs s.ps) (Try o k plain) ≡ None → Takes e k true e'
+        → Did s (Try o k plain) answers.Held (insert s.es o (begun e' plain)) s.fs (insert s.ps i (record { admission = o; key = k; plain = plain }))
+    holds_one plain k e' none takes =
         let fresh = halls.no_second of_future of_permit AreKept size_of s.es s.fs s.ps s.next i s.kept.hall s.later s.fits in
         let took = takes.some refl in
         let becomes = took.1 in
@@ -153,8 +146,8 @@ module _ {old : Part ShareHall} {i : ℕ} (s : Site old i) where
         let h = hall_seen s.es s.fs s.ps in
         let u = taken (share_at (shares_seen e.fair.shares) k) in
         let things = ap (λ (d : KeptAdmission). d.things) takes.rest in
-        rests_as s ev (quietly (record h { admissions = insert h.admissions o (model.taken_for (admission_seen e) k); permits = insert h.permits i p }) answers.Held) answers.Held (insert s.es o (begun e' plain)) s.fs (insert s.ps i p) none
-        (does ∙ step_is (model.try h i o k plain) ∙ if_false (e.fair.free == 0) _ _ (free_is (admission_seen e) took.0))
+        rests_as s (Try o k plain) (quietly (record h { admissions = insert h.admissions o (model.taken_for (admission_seen e) k); permits = insert h.permits i p }) answers.Held) answers.Held (insert s.es o (begun e' plain)) s.fs (insert s.ps i p) none
+        (step_is (model.try h i o k plain) ∙ if_false (e.fair.free == 0) _ _ (free_is (admission_seen e) took.0))
         (turn (begun e' plain) s.fs (insert s.ps i p) Stays (Comes i p (omega arith) refl (λ y there. absurd (cc)))
         (rw (own-put of_permit o s.ps i p refl) (good_with_permit e' (own of_future o s.fs) (own of_permit o s.ps) i p (good_becomes e e' _ _ k t (e.fair.free - 1) e.fair.next good takes.rest becomes takes.settled) (own-none of_permit o s.ps i fresh)))
         (rw (own-put of_permit o s.ps i p refl) (let more = len-new (own of_permit o s.ps) i p (own-none of_permit o s.ps i fresh) in omega (arith, was_owned, more, becomes.shares.held, becomes.shares.waiting)))
@@ -164,30 +157,16 @@ module _ {old : Part ShareHall} {i : ℕ} (s : Site old i) where
         refl
         (omega (arith, put_waiters (begun e' plain), becomes.shares.waiting))
 
-    pub holds_one : (plain : Bool) (k : ℕ) (e' : KeptAdmission) → unknown_unless (is_named (hall_seen s.es s.fs s.ps) o) ≡ None → Takes e k true e'
-        → AreKeptAdmissions (insert s.es o (begun e' plain)) s.fs (insert s.ps i (record { admission = o; key = k; plain = plain })) (i + 1)
-        × Tries old i o k plain (Ok answers.Held) (part_of (insert s.es o (begun e' plain)) s.fs (insert s.ps i (record { admission = o; key = k; plain = plain })) (i + 1))
-    holds_one true k e' none takes = held_as (FsTry o k) k true e' takes none refl
-    holds_one false k e' none takes = held_as (FsTryo o k) k false e' takes none refl
-
-    -- none is free
-    lacks_as : (ev : ShareEvent) (k : ℕ) (plain : Bool) → e.fair.free ≡ 0 → cause_of (hall_seen s.es s.fs s.ps) ev ≡ None
-        → step (hall_seen s.es s.fs s.ps) i ev ≡ found (get (seen admission_seen s.es) o) (hall_seen s.es s.fs s.ps) (model.try (hall_seen s.es s.fs s.ps) i o k plain) → Did s ev answers.Lacking s.es s.fs s.ps
-    lacks_as ev k plain nothing none does =
-        rests_as s ev (quietly (hall_seen s.es s.fs s.ps) answers.Lacking) answers.Lacking s.es s.fs s.ps none
-        (does ∙ step_is (model.try (hall_seen s.es s.fs s.ps) i o k plain) ∙ if_true (e.fair.free == 0) _ _ (eq-eqb e.fair.free 0 nothing)) (stays s) refl refl refl refl
-
-    lacks_one : (plain : Bool) (k : ℕ) → unknown_unless (is_named (hall_seen s.es s.fs s.ps) o) ≡ None → e.fair.free ≡ 0 → AreKeptAdmissions s.es s.fs s.ps (i + 1) × Tries old i o k plain (Ok answers.Lacking) (part_of s.es s.fs s.ps (i + 1))
-    lacks_one true k none nothing = lacks_as (FsTry o k) k true nothing none refl
-    lacks_one false k none nothing = lacks_as (FsTryo o k) k false nothing none refl
-
     -- the permit that was put first is gone again
     permit_undone : (p : SharePermit) → remove (insert s.ps i p) i ≡ s.ps
     permit_undone p = put_gone s.ps i p ∙ gone_none s.ps i (halls.no_second of_future of_permit AreKept size_of s.es s.fs s.ps s.next i s.kept.hall s.later s.fits)
 
-    pub lacks : (plain : Bool) (k : ℕ) (e' : KeptAdmission) (p : SharePermit) → unknown_unless (is_named (hall_seen s.es s.fs s.ps) o) ≡ None → Takes e k false e'
-        → AreKeptAdmissions (insert s.es o e') s.fs (remove (insert s.ps i p) i) (i + 1) × Tries old i o k plain (Ok answers.Lacking) (part_of (insert s.es o e') s.fs (remove (insert s.ps i p) i) (i + 1))
-    lacks plain k e' p none takes = let now = takes.none refl in rw (same_put e' now.1, permit_undone p) (lacks_one plain k none now.0)
+    -- none is free
+    pub lacks : (plain : Bool) (k : ℕ) (e' : KeptAdmission) (p : SharePermit) → cause_in (hall_seen s.es s.fs s.ps) (Try o k plain) ≡ None → Takes e k false e' → Did s (Try o k plain) answers.Lacking (insert s.es o e') s.fs (remove (insert s.ps i p) i)
+    lacks plain k e' p none takes =
+        let now = takes.none refl in
+        rw (same_put e' now.1, permit_undone p) (rests_as s (Try o k plain) (quietly (hall_seen s.es s.fs s.ps) answers.Lacking) answers.Lacking s.es s.fs s.ps none
+        (step_is (model.try (hall_seen s.es s.fs s.ps) i o k plain) ∙ if_true (e.fair.free == 0) _ _ (eq-eqb e.fair.free 0 now.0)) (stays s) refl refl refl refl)
 
     pub not_tried : (e' : KeptAdmission) (p : SharePermit) → e' ≡ e → AreKeptAdmissions (insert s.es o e') s.fs (remove (insert s.ps i p) i) s.next × (◌≡◌ {A = Part ShareHall} (part_of (insert s.es o e') s.fs (remove (insert s.ps i p) i) s.next) old)
     not_tried e' p is = rw (same_put e' is, permit_undone p) (s.kept, s.view)
@@ -248,11 +227,11 @@ module _ {old : Part ShareHall} {i : ℕ} (s : Site old i) where
     unnamed_good : AreGood unnamed (own of_future o s.fs) (own of_permit o s.ps)
     unnamed_good = record { quiet = good.quiet; settled = good.settled; waiting = good.waiting; lasting = good.lasting; things = good.things; plain = good.plain }
 
-    pub drops : cause_of (hall_seen s.es s.fs s.ps) (FsDrop o) ≡ None
-        → Did s (FsDrop o) answers.Done (if is_over (record e { named = false }) then remove (insert s.es o (record e { named = false })) o else insert s.es o (record e { named = false })) s.fs s.ps
+    pub drops : cause_in (hall_seen s.es s.fs s.ps) (Drop o) ≡ None
+        → Did s (Drop o) answers.Done (if is_over (record e { named = false }) then remove (insert s.es o (record e { named = false })) o else insert s.es o (record e { named = false })) s.fs s.ps
     drops none =
         let h = hall_seen s.es s.fs s.ps in
-        rests_as s (FsDrop o) (model.drop h o (admission_seen e)) answers.Done (if is_over unnamed then remove (insert s.es o unnamed) o else insert s.es o unnamed) s.fs s.ps none
+        rests_as s (Drop o) (model.drop h o (admission_seen e)) answers.Done (if is_over unnamed then remove (insert s.es o unnamed) o else insert s.es o unnamed) s.fs s.ps none
         (step_is (model.drop h o))
         (tidies unnamed s.fs s.ps Stays Stays unnamed_good was_owned (omega arith))
         refl
@@ -304,22 +283,22 @@ module _ {old : Part ShareHall} {i : ℕ} (s : Site old i) where
         }
 
     -- and what ended is gone
-    closes : (ev : ShareEvent) (e' : KeptAdmission) (f : Fair ℕ ℕ) (r : Admission) (ws : List ℕ) (plain : Bool) (fs : Names KeptFuture) (ps : Names SharePermit) (xs : Names ShareFuture) (before after : Waking ℕ) → HandsOn e f e' before after
-        → admission_seen e' ≡ r → f.wakes ≡ ws → seen future_seen fs ≡ xs → cause_of (hall_seen s.es s.fs s.ps) ev ≡ None
-        → step (hall_seen s.es s.fs s.ps) i ev ≡ record { hall = model.tidied (record { admissions = seen admission_seen s.es; futures = xs; permits = ps }) o r; reply = answers.Done; wakes = ws }
+    closes : (a : Action) (e' : KeptAdmission) (f : Fair ℕ ℕ) (r : Admission) (ws : List ℕ) (plain : Bool) (fs : Names KeptFuture) (ps : Names SharePermit) (xs : Names ShareFuture) (before after : Waking ℕ) → HandsOn e f e' before after
+        → admission_seen e' ≡ r → f.wakes ≡ ws → seen future_seen fs ≡ xs → cause_in (hall_seen s.es s.fs s.ps) a ≡ None
+        → act_in (hall_seen s.es s.fs s.ps) i a ≡ record { hall = model.tidied (record { admissions = seen admission_seen s.es; futures = xs; permits = ps }) o r; reply = answers.Done; wakes = ws }
         → Moves of_future o i s.fs fs → Moves of_permit o i s.ps ps → AreGood (finished e' plain) (own of_future o fs) (own of_permit o ps) → Owned (finished e' plain) (own of_future o fs) (own of_permit o ps)
         → size_of (finished e' plain) ≤ size_of e + 1
-        → DidWake s ev answers.Done (if is_over (finished e' plain) then remove (insert s.es o (finished e' plain)) o else insert s.es o (finished e' plain)) fs ps before after
-    closes ev e' f r ws plain fs ps xs before after hands is wakes futures none does firsts seconds now owned bound =
+        → DidWake s a answers.Done (if is_over (finished e' plain) then remove (insert s.es o (finished e' plain)) o else insert s.es o (finished e' plain)) fs ps before after
+    closes a e' f r ws plain fs ps xs before after hands is wakes futures none does firsts seconds now owned bound =
         let e2 = finished e' plain in
         let h : ShareHall = record { admissions = seen admission_seen s.es; futures = xs; permits = ps } in
         let rest = handed_rest e' f before after hands in
         let waits = ap (λ (g : Fair ℕ ℕ). waiters_of g) rest.3 in
-        yields_as s ev (record { hall = model.tidied h o r; reply = answers.Done; wakes = ws }) answers.Done (if is_over e2 then remove (insert s.es o e2) o else insert s.es o e2) fs ps before after none does
+        yields_as s a (record { hall = model.tidied h o r; reply = answers.Done; wakes = ws }) answers.Done (if is_over e2 then remove (insert s.es o e2) o else insert s.es o e2) fs ps none does
         (tidies e2 fs ps firsts seconds now owned bound)
         refl
         (λ j. record { admissions = tidied_seen e2 r fs ps (things_of h o) is (things_are e2 fs ps xs now futures) j; futures = futures j; permits = ps })
-        (hands.woken ∙ ap (λ v. before.wakers ++ v) wakes)
+        before after (hands.woken ∙ ap (λ v. before.wakers ++ v) wakes)
         (omega (arith, hands.counted, waits, tidied_waiters e2 (nobody_over e2 (own of_future o fs) (own of_permit o ps) now owned)))
 
     -- ---- a permit ends
@@ -343,7 +322,7 @@ module _ {old : Part ShareHall} {i : ℕ} (s : Site old i) where
           (omega (arith, good.things, some), omega (arith, good.plain, one))
 
       pub ends_permit : (e' : KeptAdmission) (before after : Waking ℕ) → get s.fs q ≡ None → Releases e p.key e' before after
-          → DidWake s (FsEnd q) answers.Done (if is_over (finished e' p.plain) then remove (insert s.es o (finished e' p.plain)) o else insert s.es o (finished e' p.plain)) s.fs (remove s.ps q) before after
+          → DidWake s (End q) answers.Done (if is_over (finished e' p.plain) then remove (insert s.es o (finished e' p.plain)) o else insert s.es o (finished e' p.plain)) s.fs (remove s.ps q) before after
       ends_permit e' before after none did =
           let f = did.0 in
           let gives = did.1 in
@@ -363,7 +342,7 @@ module _ {old : Part ShareHall} {i : ℕ} (s : Site old i) where
           let holds = ap (λ (g : Fair ℕ ℕ). held_in g.shares) rest.3 in
           let lives = permit_lives in
           let number = ap (λ (r : Admission). r.next) back.is ∙ passed_next r1 (next_of r1.shares) in
-          closes (FsEnd q) e' f (passed r1 (next_of r1.shares)) (woken (next_of r1.shares)) p.plain s.fs (remove s.ps q) (seen future_seen s.fs) before after hands back.is back.wakes refl
+          closes (End q) e' f (passed r1 (next_of r1.shares)) (woken (next_of r1.shares)) p.plain s.fs (remove s.ps q) (seen future_seen s.fs) before after hands back.is back.wakes refl
           (ap (λ b. unknown_unless (if b then true else is_permit h q)) (ap is_some no_future) ∙ ap unknown_unless (is_there (get s.ps q) p is))
           (ap (end_by h q) no_future ∙ found_is (get s.ps q) h _ p is ∙ ap (λ k. found (get (seen admission_seen s.es) k) h (model.end_permit h q p)) mine ∙ step_is (model.end_permit h q p)
           ∙ ap (λ k. model.gives_back (record h { permits = remove s.ps q }) k r1) mine)
@@ -413,14 +392,14 @@ module _ {old : Part ShareHall} {i : ℕ} (s : Site old i) where
           → waiting_in g.shares + held_in g.shares + d ≤ waiting_in e.fair.shares + held_in e.fair.shares → cond (is_queued x.stage) 1 0 ≡ d
           → model.end_at (record { admissions = seen admission_seen s.es; futures = remove (seen future_seen s.fs) f; permits = s.ps }) (future_seen x) (admission_seen e) (number_of x.stage)
           ≡ record { hall = model.tidied (record { admissions = seen admission_seen s.es; futures = remove (seen future_seen s.fs) f; permits = s.ps }) o r; reply = answers.Done; wakes = ws }
-          → DidWake s (FsEnd f) answers.Done (if is_over (finished e' x.plain) then remove (insert s.es o (finished e' x.plain)) o else insert s.es o (finished e' x.plain)) (remove s.fs f) s.ps before after
+          → DidWake s (End f) answers.Done (if is_over (finished e' x.plain) then remove (insert s.es o (finished e' x.plain)) o else insert s.es o (finished e' x.plain)) (remove s.fs f) s.ps before after
       ended e' g r ws d before after hands tallies sees wakes next sums queued does =
           let h = hall_seen s.es s.fs s.ps in
           let rest = handed_rest e' g before after hands in
           let waits = ap (λ (k : Fair ℕ ℕ). waiting_in k.shares) rest.3 in
           let holds = ap (λ (k : Fair ℕ ℕ). held_in k.shares) rest.3 in
           let number = ap (λ (r : Admission). r.next) sees in
-          closes (FsEnd f) e' g r ws x.plain (remove s.fs f) s.ps (remove (seen future_seen s.fs) f) before after hands sees wakes (seen-remove future_seen s.fs f)
+          closes (End f) e' g r ws x.plain (remove s.fs f) s.ps (remove (seen future_seen s.fs) f) before after hands sees wakes (seen-remove future_seen s.fs f)
           (ap (λ b. unknown_unless (if b then true else is_permit h f)) (ap is_some seen_future))
           (ap (end_by h f) seen_future ∙ ap (λ k. model.end_future h f (future_seen x) (get (seen admission_seen s.es) k)) mine ∙ ap (model.end_future h f (future_seen x)) seen_there ∙ does)
           (Goes f was_of) Stays
@@ -429,7 +408,7 @@ module _ {old : Part ShareHall} {i : ℕ} (s : Site old i) where
           (omega (arith, rest.0, number, next))
 
       abbrev After : KeptAdmission → Waking ℕ → Waking ℕ → Type 0
-      After e' before after = DidWake s (FsEnd f) answers.Done (if is_over (finished e' x.plain) then remove (insert s.es o (finished e' x.plain)) o else insert s.es o (finished e' x.plain)) (remove s.fs f) s.ps before after
+      After e' before after = DidWake s (End f) answers.Done (if is_over (finished e' x.plain) then remove (insert s.es o (finished e' x.plain)) o else insert s.es o (finished e' x.plain)) (remove s.fs f) s.ps before after
 
       abbrev without : ShareHall
       without = record { admissions = seen admission_seen s.es; futures = remove (seen future_seen s.fs) f; permits = s.ps }
@@ -500,10 +479,7 @@ module _ {old : Part ShareHall} {i : ℕ} (s : Site old i) where
       abbrev permit : SharePermit
       permit = record { admission = x.admission; key = x.key; plain = x.plain }
 
-      known_future : cause_of (hall_seen s.es s.fs s.ps) (FsPoll f 0) ≡ None
-      known_future = ap unknown_unless (ap is_some seen_future)
-
-      poll_step : (w : ℕ) → step (hall_seen s.es s.fs s.ps) i (FsPoll f w) ≡ model.poll_at (hall_seen s.es s.fs s.ps) i f w (future_seen x) (admission_seen e) (number_of x.stage)
+      poll_step : (w : ℕ) → act_in (hall_seen s.es s.fs s.ps) i (actions.Poll f w) ≡ model.poll_at (hall_seen s.es s.fs s.ps) i f w (future_seen x) (admission_seen e) (number_of x.stage)
       poll_step w =
           found_is (get (seen future_seen s.fs) f) (hall_seen s.es s.fs s.ps) _ (future_seen x) seen_future
           ∙ ap (λ k. found (get (seen admission_seen s.es) k) (hall_seen s.es s.fs s.ps) (model.poll (hall_seen s.es s.fs s.ps) i f w (future_seen x))) mine ∙ step_is (model.poll (hall_seen s.es s.fs s.ps) i f w (future_seen x))
@@ -515,9 +491,9 @@ module _ {old : Part ShareHall} {i : ℕ} (s : Site old i) where
 
       -- it goes on, and waits
       pends : (e' : KeptAdmission) (y : KeptFuture) (w : ℕ) (o' : Outcome ShareHall) (more : ℕ) (before after : Waking ℕ) → IsSettled e'.fair → e' ≡ record e { fair = e'.fair } → Tallies e'.fair.shares → e'.fair.wakes ≡ []
-          → e'.fair.next ≤ e.fair.next + 1 → y ≡ record x { stage = y.stage } → y.stage ≢ Done → step (hall_seen s.es s.fs s.ps) i (FsPoll f w) ≡ o' → o'.reply ≡ answers.Pending → o'.wakes ≡ []
+          → e'.fair.next ≤ e.fair.next + 1 → y ≡ record x { stage = y.stage } → y.stage ≢ Done → act_in (hall_seen s.es s.fs s.ps) i (actions.Poll f w) ≡ o' → o'.reply ≡ answers.Pending → o'.wakes ≡ []
           → hall_seen (insert s.es o e') (insert s.fs f y) s.ps ≡ o'.hall → waiters e' ≡ waiters e + more → held_in e'.fair.shares ≡ held_in e.fair.shares → cond (is_queued y.stage) 1 0 ≡ cond (is_queued x.stage) 1 0 + more
-          → after ≡ record before { registered = before.registered + more } → DidWake s (FsPoll f w) answers.Pending (insert s.es o e') (insert s.fs f y) (remove (insert s.ps i permit) i) before after
+          → after ≡ record before { registered = before.registered + more } → DidWake s (actions.Poll f w) answers.Pending (insert s.es o e') (insert s.fs f y) (remove (insert s.ps i permit) i) before after
       pends e' y w o' more before after settled rest tallies quiet number future lasts does reply silent moved waits holds queued counted =
           let things = ap (λ (d : KeptAdmission). d.things) rest in
           let plain = ap (λ (d : KeptAdmission). d.plain) rest in
@@ -527,7 +503,7 @@ module _ {old : Part ShareHall} {i : ℕ} (s : Site old i) where
           let plains = count-over (own of_future o s.fs) f (λ (z : KeptFuture). z.plain) y x own_future alike in
           let puts = count-put (own of_future o s.fs) f (λ (z : KeptFuture). is_queued z.stage) y in
           let had : weight (λ k (z : KeptFuture). cond (is_queued z.stage) 1 0) f (get (own of_future o s.fs) f) ≡ cond (is_queued x.stage) 1 0 = ap (weight (λ k (z : KeptFuture). cond (is_queued z.stage) 1 0) f) own_future in
-          rw (permit_undone permit) (yields_as s (FsPoll f w) o' answers.Pending (insert s.es o e') (insert s.fs f y) s.ps before after known_future does
+          rw (permit_undone permit) (yields_as s (actions.Poll f w) o' answers.Pending (insert s.es o e') (insert s.fs f y) s.ps (may_poll s f w x is) does
           (turn e' (insert s.fs f y) s.ps (Comes f y (let low = (s.kept.hall.firsts.at f x is).0 in omega (arith, low, s.later)) mine_too was_of) Stays
           (rw (own-put of_future o s.fs f y mine_too) (record {
             quiet = quiet;
@@ -539,15 +515,15 @@ module _ {old : Part ShareHall} {i : ℕ} (s : Site old i) where
           }))
           (rw (own-put of_future o s.fs f y mine_too) (omega (arith, was_owned, waits, holds, queued, puts, had)))
           (omega (arith, things, number)))
-          (sym reply) moved
+          (sym reply) moved before after
           (ap (λ (a : Waking ℕ). a.wakers) counted ∙ sym (ap (λ ws. before.wakers ++ ws) silent ∙ append-nil before.wakers))
           (let registered_now = ap (λ (a : Waking ℕ). a.registered) counted in omega (arith, registered_now, waits, put_waiters e')))
 
       -- it is ready, and a permit
       gets : (e' : KeptAdmission) (y : KeptFuture) (w : ℕ) (r : Admission) (before after : Waking ℕ) → IsSettled e'.fair → e' ≡ record e { fair = e'.fair } → Tallies e'.fair.shares → e'.fair.wakes ≡ [] → e'.fair.next ≡ e.fair.next
-          → step (hall_seen s.es s.fs s.ps) i (FsPoll f w) ≡ model.becomes_permit (hall_seen s.es s.fs s.ps) i f (future_seen x) r → admission_seen e' ≡ r → waiters e' ≡ waiters e
+          → act_in (hall_seen s.es s.fs s.ps) i (actions.Poll f w) ≡ model.becomes_permit (hall_seen s.es s.fs s.ps) i f (future_seen x) r → admission_seen e' ≡ r → waiters e' ≡ waiters e
           → held_in e'.fair.shares + cond (is_queued x.stage) 1 0 ≡ held_in e.fair.shares + 1 → after ≡ before
-          → DidWake s (FsPoll f w) answers.Ready (insert s.es o e') (remove (insert s.fs f y) f) (insert s.ps i permit) before after
+          → DidWake s (actions.Poll f w) answers.Ready (insert s.es o e') (remove (insert s.fs f y) f) (insert s.ps i permit) before after
       gets e' y w r before after settled rest tallies quiet number does sees waits holds counted =
           let things = ap (λ (d : KeptAdmission). d.things) rest in
           let plain = ap (λ (d : KeptAdmission). d.plain) rest in
@@ -558,7 +534,7 @@ module _ {old : Part ShareHall} {i : ℕ} (s : Site old i) where
           let none = own-none of_permit o s.ps i fresh_permit in
           let more = len-new (own of_permit o s.ps) i permit none in
           let more_plain = count-new (own of_permit o s.ps) i (λ (z : SharePermit). z.plain) permit none in
-          rw (put_gone s.fs f y) (yields_as s (FsPoll f w) (model.becomes_permit h i f (future_seen x) r) answers.Ready (insert s.es o e') (remove s.fs f) (insert s.ps i permit) before after known_future does
+          rw (put_gone s.fs f y) (yields_as s (actions.Poll f w) (model.becomes_permit h i f (future_seen x) r) answers.Ready (insert s.es o e') (remove s.fs f) (insert s.ps i permit) (may_poll s f w x is) does
           (turn e' (remove s.fs f) (insert s.ps i permit) (Goes f was_of) (Comes i permit (omega arith) mine (λ z there. absurd (let none = fresh_permit in cc)))
           (rw (own-gone of_future o s.fs f, own-put of_permit o s.ps i permit mine) (record {
             quiet = quiet;
@@ -572,7 +548,7 @@ module _ {old : Part ShareHall} {i : ℕ} (s : Site old i) where
           (omega (arith, things, number)))
           refl
           (λ j. record { admissions = (seen-insert admission_seen s.es o e' ∙ ap (insert (seen admission_seen s.es) o) sees ∙ ap (λ k. insert (seen admission_seen s.es) k r) (sym mine)) j; futures = seen-remove future_seen s.fs f j; permits = insert s.ps i permit })
-          (ap (λ (a : Waking ℕ). a.wakers) counted ∙ sym (append-nil before.wakers))
+          before after (ap (λ (a : Waking ℕ). a.wakers) counted ∙ sym (append-nil before.wakers))
           (let registered_now = ap (λ (a : Waking ℕ). a.registered) counted in omega (arith, registered_now, waits, put_waiters e')))
 
       no_ready : {A : Type 0} (u : Unit {0}) → ◌≡◌ {A = Poll (Unit {0})} (Ready u) Pending → A
@@ -595,7 +571,7 @@ module _ {old : Part ShareHall} {i : ℕ} (s : Site old i) where
 
       -- it begins to wait
       begins_to_wait : (e' : KeptAdmission) (y : KeptFuture) (w : ℕ) (before after : Waking ℕ) → PollsEntry e x w Pending e' y before after → x.stage ≡ New → e.fair.free ≡ 0 → y.stage ≡ Queued e.fair.next
-          → Becomes nat_eq e.fair e'.fair x.key (queued (share_of nat_eq e.fair x.key) e.fair.next w) 0 (e.fair.next + 1) → DidWake s (FsPoll f w) answers.Pending (insert s.es o e') (insert s.fs f y) (remove (insert s.ps i permit) i) before after
+          → Becomes nat_eq e.fair e'.fair x.key (queued (share_of nat_eq e.fair x.key) e.fair.next w) 0 (e.fair.next + 1) → DidWake s (actions.Poll f w) answers.Pending (insert s.es o e') (insert s.fs f y) (remove (insert s.ps i permit) i) before after
       begins_to_wait e' y w before after did stage none now becomes =
           let h = hall_seen s.es s.fs s.ps in
           let t = share_of nat_eq e.fair x.key in
@@ -617,7 +593,7 @@ module _ {old : Part ShareHall} {i : ℕ} (s : Site old i) where
 
       -- it waits on
       waits_again : (e' : KeptAdmission) (y : KeptFuture) (w n : ℕ) (before after : Waking ℕ) → PollsEntry e x w Pending e' y before after → x.stage ≡ Queued n → IsWaiting (share_of nat_eq e.fair x.key) n → y.stage ≡ Queued n
-          → Becomes nat_eq e.fair e'.fair x.key (queued (share_of nat_eq e.fair x.key) n w) e.fair.free e.fair.next → DidWake s (FsPoll f w) answers.Pending (insert s.es o e') (insert s.fs f y) (remove (insert s.ps i permit) i) before after
+          → Becomes nat_eq e.fair e'.fair x.key (queued (share_of nat_eq e.fair x.key) n w) e.fair.free e.fair.next → DidWake s (actions.Poll f w) answers.Pending (insert s.es o e') (insert s.fs f y) (remove (insert s.ps i permit) i) before after
       waits_again e' y w n before after did stage waits now becomes =
           let h = hall_seen s.es s.fs s.ps in
           let t = share_of nat_eq e.fair x.key in
@@ -638,22 +614,22 @@ module _ {old : Part ShareHall} {i : ℕ} (s : Site old i) where
           (omega (arith, becomes.shares.waiting, as_many)) (omega (arith, becomes.shares.held)) (let a : ◌≡◌ {A = ℕ} (cond (is_queued y.stage) 1 0) (cond (is_queued x.stage) 1 0) = ap (λ (z : KeptFuture). cond (is_queued z.stage) 1 0) same in omega (arith, a))
           (did.counted ∙ ap (λ z. record before { registered = before.registered + cond (is_queued z) 0 1 }) stage)
 
-      pub pended : (e' : KeptAdmission) (y : KeptFuture) (w : ℕ) (before after : Waking ℕ) → PollsEntry e x w Pending e' y before after → DidWake s (FsPoll f w) answers.Pending (insert s.es o e') (insert s.fs f y) (remove (insert s.ps i permit) i) before after
+      pub pended : (e' : KeptAdmission) (y : KeptFuture) (w : ℕ) (before after : Waking ℕ) → PollsEntry e x w Pending e' y before after → DidWake s (actions.Poll f w) answers.Pending (insert s.es o e') (insert s.fs f y) (remove (insert s.ps i permit) i) before after
       pended e' y w before after did = by_stage x.stage refl did.polls
         where
-          by_stage : (t : ShareStage) → x.stage ≡ t → Polls nat_eq e.fair x.key t w Pending e'.fair y.stage → DidWake s (FsPoll f w) answers.Pending (insert s.es o e') (insert s.fs f y) (remove (insert s.ps i permit) i) before after
-          by_stage New stage polls = elim (cases_lt 0 e.fair.free) as (λ _. DidWake s (FsPoll f w) answers.Pending (insert s.es o e') (insert s.fs f y) (remove (insert s.ps i permit) i) before after) [
+          by_stage : (t : ShareStage) → x.stage ≡ t → Polls nat_eq e.fair x.key t w Pending e'.fair y.stage → DidWake s (actions.Poll f w) answers.Pending (insert s.es o e') (insert s.fs f y) (remove (insert s.ps i permit) i) before after
+          by_stage New stage polls = elim (cases_lt 0 e.fair.free) as (λ _. DidWake s (actions.Poll f w) answers.Pending (insert s.es o e') (insert s.fs f y) (remove (insert s.ps i permit) i) before after) [
             | inl some ↦ no_pending tt (polls.0 some).0
             | inr none ↦ let zero : e.fair.free ≡ 0 = omega (arith, none) in let all = polls.1 zero in begins_to_wait e' y w before after did stage zero all.1 all.2
           ]
           by_stage (Queued n) stage polls = by_has (has_number n stage)
             where
-              by_has : HasNumber (share_of nat_eq e.fair x.key) n → DidWake s (FsPoll f w) answers.Pending (insert s.es o e') (insert s.fs f y) (remove (insert s.ps i permit) i) before after
+              by_has : HasNumber (share_of nat_eq e.fair x.key) n → DidWake s (actions.Poll f w) answers.Pending (insert s.es o e') (insert s.fs f y) (remove (insert s.ps i permit) i) before after
               by_has (inl waits) = let all = polls.0 waits in waits_again e' y w n before after did stage waits all.1 all.2
               by_has (inr was) = no_pending tt (polls.1 was).0
           by_stage Done stage polls = absurd (not_done stage)
 
-      pub readied_now : (e' : KeptAdmission) (y : KeptFuture) (w : ℕ) (u : Unit {0}) (before after : Waking ℕ) → PollsEntry e x w (Ready u) e' y before after → DidWake s (FsPoll f w) answers.Ready (insert s.es o e') (remove (insert s.fs f y) f) (insert s.ps i permit) before after
+      pub readied_now : (e' : KeptAdmission) (y : KeptFuture) (w : ℕ) (u : Unit {0}) (before after : Waking ℕ) → PollsEntry e x w (Ready u) e' y before after → DidWake s (actions.Poll f w) answers.Ready (insert s.es o e') (remove (insert s.fs f y) f) (insert s.ps i permit) before after
       readied_now e' y w unit before after did = by_stage x.stage refl did.polls
         where
           h : ShareHall
@@ -665,7 +641,7 @@ module _ {old : Part ShareHall} {i : ℕ} (s : Site old i) where
               zero_more : (n : ℕ) → n + 0 ≡ n
               zero_more n = omega arith
 
-          taken_now : x.stage ≡ New → 0 < e.fair.free → Becomes nat_eq e.fair e'.fair x.key (taken (share_of nat_eq e.fair x.key)) (e.fair.free - 1) e.fair.next → DidWake s (FsPoll f w) answers.Ready (insert s.es o e') (remove (insert s.fs f y) f) (insert s.ps i permit) before after
+          taken_now : x.stage ≡ New → 0 < e.fair.free → Becomes nat_eq e.fair e'.fair x.key (taken (share_of nat_eq e.fair x.key)) (e.fair.free - 1) e.fair.next → DidWake s (actions.Poll f w) answers.Ready (insert s.es o e') (remove (insert s.fs f y) f) (insert s.ps i permit) before after
           taken_now stage some becomes =
               let u = share_at (shares_seen e.fair.shares) x.key in
               let nothing : ◌≡◌ {A = ℕ} (cond (is_queued x.stage) 1 0) 0 = ap (λ t. cond (is_queued t) 1 0) stage in
@@ -675,7 +651,7 @@ module _ {old : Part ShareHall} {i : ℕ} (s : Site old i) where
               (omega (arith, becomes.shares.waiting)) (omega (arith, becomes.shares.held, nothing)) same_waking
 
           readied_here : (n : ℕ) → x.stage ≡ Queued n → waits_at n ≡ false → IsAdmitted (share_of nat_eq e.fair x.key) n → Becomes nat_eq e.fair e'.fair x.key (readied (share_of nat_eq e.fair x.key) n) e.fair.free e.fair.next
-              → DidWake s (FsPoll f w) answers.Ready (insert s.es o e') (remove (insert s.fs f y) f) (insert s.ps i permit) before after
+              → DidWake s (actions.Poll f w) answers.Ready (insert s.es o e') (remove (insert s.fs f y) f) (insert s.ps i permit) before after
           readied_here n stage quiet was becomes =
               let t = share_of nat_eq e.fair x.key in
               let u = share_at (shares_seen e.fair.shares) x.key in
@@ -689,13 +665,13 @@ module _ {old : Part ShareHall} {i : ℕ} (s : Site old i) where
               (omega (arith, becomes.shares.waiting)) (omega (arith, becomes.shares.held, gone, some, one)) same_waking
 
           by_waits : (n : ℕ) (b : Bool) → waits_at n ≡ b → x.stage ≡ Queued n → Polls nat_eq e.fair x.key (Queued n) w (Ready unit) e'.fair y.stage → HasNumber (share_of nat_eq e.fair x.key) n
-              → DidWake s (FsPoll f w) answers.Ready (insert s.es o e') (remove (insert s.fs f y) f) (insert s.ps i permit) before after
+              → DidWake s (actions.Poll f w) answers.Ready (insert s.es o e') (remove (insert s.fs f y) f) (insert s.ps i permit) before after
           by_waits n true waits stage polls has = no_ready unit (polls.0 waits).0
           by_waits n false quiet stage polls (inl waits) = absurd (let yes : waits_at n ≡ true = waits in cc)
           by_waits n false quiet stage polls (inr was) = readied_here n stage quiet was (polls.1 was).2
 
-          by_stage : (t : ShareStage) → x.stage ≡ t → Polls nat_eq e.fair x.key t w (Ready unit) e'.fair y.stage → DidWake s (FsPoll f w) answers.Ready (insert s.es o e') (remove (insert s.fs f y) f) (insert s.ps i permit) before after
-          by_stage New stage polls = elim (cases_lt 0 e.fair.free) as (λ _. DidWake s (FsPoll f w) answers.Ready (insert s.es o e') (remove (insert s.fs f y) f) (insert s.ps i permit) before after) [
+          by_stage : (t : ShareStage) → x.stage ≡ t → Polls nat_eq e.fair x.key t w (Ready unit) e'.fair y.stage → DidWake s (actions.Poll f w) answers.Ready (insert s.es o e') (remove (insert s.fs f y) f) (insert s.ps i permit) before after
+          by_stage New stage polls = elim (cases_lt 0 e.fair.free) as (λ _. DidWake s (actions.Poll f w) answers.Ready (insert s.es o e') (remove (insert s.fs f y) f) (insert s.ps i permit) before after) [
             | inl some ↦ taken_now stage some (polls.0 some).2
             | inr none ↦ no_ready unit (polls.1 (omega (arith, none))).0
           ]

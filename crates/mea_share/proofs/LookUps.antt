@@ -13,11 +13,10 @@ use Rattle.mea_family.specs.Play.{Part}
 use Rattle.mea_by_name.proofs.Own.{seen-at, seen-none, seen-back, seen-empty, insert_same, gone_none}
 use Rattle.mea_share_core.specs.Groups.{waiting_in}
 use Rattle.mea_share_core.specs.Fair.{IsSettled}
-use Rattle.mea_events.specs.declared.share_event.ShareEvent.TheVariants.{FsPoll, FsEnd}
 use Rattle.mea_share_model.specs.Next as next_model
 use Rattle.mea_share_model.specs.Admissions as model
 use Rattle.mea_share_model.specs.Admissions.{Admission, SharePermit, ShareHall, registered, plain_of, is_named, is_named_one, is_future, is_permit}
-use Rattle.mea_share_model.specs.Meaning.{cause_of}
+use Rattle.mea_share_model.specs.Actions.{Poll, End, cause_in}
 use Rattle.mea_share_model.specs.Valid.{AreValid}
 use Rattle.mea_share_model.proofs.Keeping.{valid_start}
 use Rattle.mea_share.specs.Kept.{KeptAdmission, KeptFuture, shares_seen, admission_seen, future_seen, hall_seen, AreGood, of_future, of_permit, AreKeptAdmissions}
@@ -49,9 +48,6 @@ module _ {old : Part ShareHall} {i : ℕ} (s : Site old i) where
   pub future_home : (f : ℕ) (x : KeptFuture) → get s.fs f ≡ Some x → IsSome (get s.es x.admission)
   future_home f x is = (s.kept.hall.firsts.at f x is).1
 
-  pub its_good : (o : ℕ) (e : KeptAdmission) → get s.es o ≡ Some e → AreGood e (own of_future o s.fs) (own of_permit o s.ps)
-  its_good o e there = (s.kept.hall.each o e there).good
-
   -- there is room for each that waits
   pub its_room : (o : ℕ) (e : KeptAdmission) (before : Waking ℕ) → get s.es o ≡ Some e → registered old.hall ≤ before.registered → waiters e ≤ before.registered
   its_room o e before there room =
@@ -65,10 +61,10 @@ module _ {old : Part ShareHall} {i : ℕ} (s : Site old i) where
   pub without_permit : (p : ℕ) → get s.ps p ≡ None → AreKeptAdmissions s.es s.fs (remove s.ps p) s.next × (◌≡◌ {A = Part ShareHall} (part_of s.es s.fs (remove s.ps p) s.next) old)
   without_permit p none = rw (gone_none s.ps p none) (s.kept, s.view)
 
-  pub may_poll : (f w : ℕ) (x : KeptFuture) → get s.fs f ≡ Some x → cause_of (hall_seen s.es s.fs s.ps) (FsPoll f w) ≡ None
+  pub may_poll : (f w : ℕ) (x : KeptFuture) → get s.fs f ≡ Some x → cause_in (hall_seen s.es s.fs s.ps) (Poll f w) ≡ None
   may_poll f w x is = ap unknown_unless (ap is_some (seen-at future_seen s.fs f x is))
 
-  pub ends_nothing : (x : ℕ) → get s.fs x ≡ None → get s.ps x ≡ None → cause_of (hall_seen s.es s.fs s.ps) (FsEnd x) ≡ Some Unknown
+  pub ends_nothing : (x : ℕ) → get s.fs x ≡ None → get s.ps x ≡ None → cause_in (hall_seen s.es s.fs s.ps) (End x) ≡ Some Unknown
   ends_nothing x no_future no_permit = ap (λ q. unknown_unless (if is_some q then true else is_permit (hall_seen s.es s.fs s.ps) x)) (seen-none future_seen s.fs x no_future) ∙ ap (λ q. unknown_unless (is_some q)) no_permit
 
 -- ---- what is looked up in admissions that are seen so

@@ -7,7 +7,8 @@ use Rattle.std.proofs.lemmas.Bool.{cases_lt}
 use Rattle.mea_family.specs.declared.answer.Answer.{Answer}
 use Rattle.mea_family.specs.declared.answer.Answer.TheVariants as answers
 use Rattle.mea_family.specs.declared.stop.Stop.{Stop}
-use Rattle.mea_family.specs.declared.stop.Stop.TheVariants.{NoMemory}
+use Rattle.mea_family.specs.declared.stop.Stop.TheVariants.{Unknown, NoMemory}
+use Rattle.mea_family.specs.Acts.{Refuses}
 use Rattle.mea_family.specs.Family.{Outcome, quietly}
 use Rattle.mea_family.specs.Causes.{unknown_unless}
 use Rattle.mea_base.specs.Ready.{Waking}
@@ -16,7 +17,7 @@ use Rattle.mea_base.proofs.Maps.{nothing_at, inside, is_there, value_in, by_put,
 use Rattle.mea_base.proofs.Totals.{total-insert, total-same, total-empty}
 use Rattle.mea_by_name.specs.ByName.{Names, seen, own, count}
 use Rattle.mea_by_name.specs.HallKept.{HallKept}
-use Rattle.mea_family.specs.Play.{Part, PartYields, found}
+use Rattle.mea_family.specs.Play.{Part, PartYields, PartRests, found}
 use Rattle.mea_by_name.proofs.Cases.{found_is, if_false}
 use Rattle.mea_by_name.proofs.Halls as halls
 use Rattle.mea_by_name.proofs.Own.{seen-none, seen-back, seen-insert, own-seen, total-seen, len-some, len-new, len-gone, count-new, count-gone}
@@ -24,20 +25,18 @@ use Rattle.mea_share_core.specs.declared.share_acquire.ShareStage.TheVariants.{D
 use Rattle.mea_share_core.specs.Share.{Share, waiting_of, IsWaiting}
 use Rattle.mea_share_core.specs.Groups.{share_in, held_in, waiting_in}
 use Rattle.mea_share_core.specs.Fair.{Fair, IsSettled, share_of, waiters_of, is_queued, Becomes, PassesOn}
-use Rattle.mea_events.specs.declared.share_event.ShareEvent.{ShareEvent}
-use Rattle.mea_events.specs.declared.share_event.ShareEvent.TheVariants.{FsNew, FsFree, FsWaiters, FsKey, FsWeightof}
 use Rattle.mea_share_model.specs.Next as next_model
 use Rattle.mea_share_model.specs.Next.{Shares, share_at, put_share}
 use Rattle.mea_share_model.specs.Admissions as model
 use Rattle.mea_share_model.specs.Admissions.{Admission, ShareFuture, SharePermit, ShareHall, registered, with_share, passed, woken, is_named, is_named_one, is_future, plain_of}
-use Rattle.mea_share_model.specs.Meaning.{cause_of, step}
+use Rattle.mea_share_model.specs.Actions.{Action, Make, Free, Waiters, Weight, Key, cause_in, act_in}
 use Rattle.mea_share_model.specs.Valid.{AreValid}
 use Rattle.mea_share_model.proofs.Keeping.{AreLow, valid_after}
 use Rattle.mea_share_model.proofs.Changes.{len-least, by_key}
 use Rattle.mea_share.specs.Kept.{KeptAdmission, KeptFuture, shares_seen, admission_seen, future_seen, hall_seen, AreGood, AreKept, of_future, of_permit, size_of, AreKeptAdmissions}
 use Rattle.mea_share.specs.Entries.{new_admission, begun, finished}
 use Rattle.mea_share.specs.Lends.{StandsFor}
-use Rattle.mea_share.specs.Acts.{Refuses, Acts, ActsQuietly}
+use Rattle.mea_share.specs.Halls.{IsFree, Acts, ActsQuietly}
 use Rattle.mea_share.proofs.Seen.{share_seen, sets_seen, nothing_seen, tallies_sets}
 
 abbrev pub waiters : KeptAdmission → ℕ
@@ -94,47 +93,50 @@ low es fs ps next kept = record {
 }
 
 module _ {old : Part ShareHall} {i : ℕ} (s : Site old i) where
-  -- what event number i leaves, and that it was played; and where it leaves the ready wakers as they are
-  abbrev pub DidWake : ShareEvent → Answer → Names KeptAdmission → Names KeptFuture → Names SharePermit → Waking ℕ → Waking ℕ → Type 0
-  DidWake e answer es fs ps before after = AreKeptAdmissions es fs ps (i + 1) × Acts old i e (Ok answer) (part_of es fs ps (i + 1)) before after
+  -- what an action under number i leaves, and that it was done; and where it leaves the ready wakers as they are
+  abbrev pub DidWake : Action → Answer → Names KeptAdmission → Names KeptFuture → Names SharePermit → Waking ℕ → Waking ℕ → Type 0
+  DidWake a answer es fs ps before after = AreKeptAdmissions es fs ps (i + 1) × Acts old i a (Ok answer) (part_of es fs ps (i + 1)) before after
 
-  abbrev pub Did : ShareEvent → Answer → Names KeptAdmission → Names KeptFuture → Names SharePermit → Type 0
-  Did e answer es fs ps = AreKeptAdmissions es fs ps (i + 1) × ActsQuietly old i e (Ok answer) (part_of es fs ps (i + 1))
+  abbrev pub Did : Action → Answer → Names KeptAdmission → Names KeptFuture → Names SharePermit → Type 0
+  Did a answer es fs ps = AreKeptAdmissions es fs ps (i + 1) × ActsQuietly old i a (Ok answer) (part_of es fs ps (i + 1))
 
-  pub seen_valid : (e : ShareEvent) (es : Names KeptAdmission) (fs : Names KeptFuture) (ps : Names SharePermit) → cause_of (hall_seen s.es s.fs s.ps) e ≡ None → hall_seen es fs ps ≡ (step (hall_seen s.es s.fs s.ps) i e).hall → AreValid (hall_seen es fs ps)
-  seen_valid e es fs ps none is = subst AreValid (sym is) (valid_after (hall_seen s.es s.fs s.ps) s.next i (low s.es s.fs s.ps s.next s.kept.hall) s.later s.kept.valid e none)
+  module _ (a : Action) (o : Outcome ShareHall) (answer : Answer) (es : Names KeptAdmission) (fs : Names KeptFuture) (ps : Names SharePermit) (none : cause_in (hall_seen s.es s.fs s.ps) a ≡ None) (is : act_in (hall_seen s.es s.fs s.ps) i a ≡ o)
+      (kept : HallOf es fs ps (i + 1)) (replied : answer ≡ o.reply) (moved : hall_seen es fs ps ≡ o.hall) where
+    kept_as : AreKeptAdmissions es fs ps (i + 1)
+    kept_as = record { hall = kept; valid = subst AreValid (ap (λ (p : Outcome ShareHall). p.hall) is ∙ sym moved) (valid_after (hall_seen s.es s.fs s.ps) s.next i (low s.es s.fs s.ps s.next s.kept.hall) s.later s.kept.valid a none) }
 
-  -- what is said of the admissions as they are kept is said of them as they are seen
-  pub yields_as : (e : ShareEvent) (o : Outcome ShareHall) (answer : Answer) (es : Names KeptAdmission) (fs : Names KeptFuture) (ps : Names SharePermit) (before after : Waking ℕ) → cause_of (hall_seen s.es s.fs s.ps) e ≡ None → step (hall_seen s.es s.fs s.ps) i e ≡ o
-      → HallOf es fs ps (i + 1) → answer ≡ o.reply → hall_seen es fs ps ≡ o.hall → after.wakers ≡ before.wakers ++ o.wakes → after.registered + all_waiters s.es ≡ before.registered + all_waiters es → DidWake e answer es fs ps before after
-  yields_as e o answer es fs ps before after none is kept replied moved wakes counted = (
-    record { hall = kept; valid = seen_valid e es fs ps none (moved ∙ sym (ap (λ (p : Outcome ShareHall). p.hall) is)) },
-    (
-      subst (λ (p : Part ShareHall). cause_of p.hall e ≡ None) s.view none,
-      subst (λ p. PartYields registered p i (step p.hall i e) answer (part_of es fs ps (i + 1)) before after) s.view (rw is (record {
-        replied = replied;
-        moved = ap (λ h. record { hall = h; next = i + 1 }) moved;
-        woken = wakes;
-        counted =
-            let now = sym (ap registered moved) ∙ registered_is es fs ps (i + 1) kept in
-            let was = registered_is s.es s.fs s.ps s.next s.kept.hall in
-            omega (arith, counted, now, was);
-      })),
-    ),
-  )
+    allowed_as : cause_in old.hall a ≡ None
+    allowed_as = subst (λ (p : Part ShareHall). cause_in p.hall a ≡ None) s.view none
 
-  pub rests_as : (e : ShareEvent) (o : Outcome ShareHall) (answer : Answer) (es : Names KeptAdmission) (fs : Names KeptFuture) (ps : Names SharePermit) → cause_of (hall_seen s.es s.fs s.ps) e ≡ None → step (hall_seen s.es s.fs s.ps) i e ≡ o
-      → HallOf es fs ps (i + 1) → answer ≡ o.reply → hall_seen es fs ps ≡ o.hall → o.wakes ≡ [] → all_waiters es ≡ all_waiters s.es → Did e answer es fs ps
-  rests_as e o answer es fs ps none is kept replied moved silent counted =
-      let did : (w : Waking ℕ) → DidWake e answer es fs ps w w = λ w. yields_as e o answer es fs ps w w none is kept replied moved (sym (append-nil w.wakers) ∙ ap (λ ws. w.wakers ++ ws) (sym silent)) (ap (λ n. w.registered + n) (sym counted)) in
-      ((did (record { wakers = []; registered = 0 })).0, λ w. (did w).1)
+    now_registered : registered o.hall ≡ all_waiters es
+    now_registered = sym (ap registered moved) ∙ registered_is es fs ps (i + 1) kept
+
+    -- what is said of the admissions as they are kept is said of them as they are seen
+    pub yields_as : (before after : Waking ℕ) → after.wakers ≡ before.wakers ++ o.wakes → after.registered + all_waiters s.es ≡ before.registered + all_waiters es → DidWake a answer es fs ps before after
+    yields_as before after wakes counted = (kept_as, (allowed_as, subst (λ p. PartYields registered p i (act_in p.hall i a) answer (part_of es fs ps (i + 1)) before after) s.view (rw is (record {
+      replied = replied;
+      moved = ap (λ h. record { hall = h; next = i + 1 }) moved;
+      woken = wakes;
+      counted = omega (arith, counted, now_registered, registered_is s.es s.fs s.ps s.next s.kept.hall);
+    }))))
+
+    pub rests_as : o.wakes ≡ [] → all_waiters es ≡ all_waiters s.es → Did a answer es fs ps
+    rests_as silent counted = (kept_as, (allowed_as, subst (λ p. PartRests registered p i (act_in p.hall i a) answer (part_of es fs ps (i + 1))) s.view (rw is (record {
+      replied = replied;
+      moved = ap (λ h. record { hall = h; next = i + 1 }) moved;
+      silent = silent;
+      counted = now_registered ∙ counted ∙ sym (registered_is s.es s.fs s.ps s.next s.kept.hall);
+    }))))
 
   -- it is refused for its cause, or for want of memory
-  pub refuses : (cause : ShareHall → Option Stop) (free : Type 0) (stop : Stop) → cause (hall_seen s.es s.fs s.ps) ≡ Some stop → Refuses (cause old.hall) free stop
-  refuses cause free stop is = inl (subst (λ (p : Part ShareHall). cause p.hall ≡ Some stop) s.view is)
+  pub refuses : (a : Action) (stop : Stop) → cause_in (hall_seen s.es s.fs s.ps) a ≡ Some stop → stop ≢ NoMemory → Refuses (cause_in old.hall a) (IsFree a) stop
+  refuses a stop is tells = inl (subst (λ (p : Part ShareHall). cause_in p.hall a ≡ Some stop) s.view is, tells)
 
-  pub lacks_memory : (cause : ShareHall → Option Stop) (free : Type 0) → cause (hall_seen s.es s.fs s.ps) ≡ None → (free → ⊥) → Refuses (cause old.hall) free NoMemory
-  lacks_memory cause free none takes = inr (subst (λ (p : Part ShareHall). cause p.hall ≡ None) s.view none, refl, takes)
+  pub unknown : (a : Action) → cause_in (hall_seen s.es s.fs s.ps) a ≡ Some Unknown → Refuses (cause_in old.hall a) (IsFree a) Unknown
+  unknown a is = refuses a Unknown is (λ no. absurd (cc))
+
+  pub lacks_memory : (a : Action) → cause_in (hall_seen s.es s.fs s.ps) a ≡ None → (IsFree a → ⊥) → Refuses (cause_in old.hall a) (IsFree a) NoMemory
+  lacks_memory a none takes = inr (subst (λ (p : Part ShareHall). cause_in p.hall a ≡ None) s.view none, refl, takes)
 
   -- ---- what is not there
   pub nameless : (o : ℕ) → get s.es o ≡ None → is_named (hall_seen s.es s.fs s.ps) o ≡ false
@@ -149,32 +151,32 @@ module _ {old : Part ShareHall} {i : ℕ} (s : Site old i) where
 
   -- what is told of an admission that is seen so
   module _ (o : ℕ) (f : Fair ℕ ℕ) (stands : StandsFor old.hall o f) where
-    pub named : cause_of (hall_seen s.es s.fs s.ps) (FsFree o) ≡ None
+    pub named : cause_in (hall_seen s.es s.fs s.ps) (Free o) ≡ None
     named = ap (λ (p : Part ShareHall). unknown_unless (is_named p.hall o)) s.view ∙ ap (λ q. unknown_unless (is_named_one q)) stands
 
-    tells : (ev : ShareEvent) (answer : Answer) (act : Admission → Outcome ShareHall) → cause_of (hall_seen s.es s.fs s.ps) ev ≡ None → step (hall_seen s.es s.fs s.ps) i ev ≡ found (get (seen admission_seen s.es) o) (hall_seen s.es s.fs s.ps) act
-        → act (record { free = f.free; next = f.next; shares = shares_seen f.shares; named = true }) ≡ quietly (hall_seen s.es s.fs s.ps) answer → Did ev answer s.es s.fs s.ps
-    tells ev answer act none is does =
-        rests_as ev (quietly (hall_seen s.es s.fs s.ps) answer) answer s.es s.fs s.ps none (is ∙ found_is (get (seen admission_seen s.es) o) (hall_seen s.es s.fs s.ps) act _ (ap (λ (p : Part ShareHall). get p.hall.admissions o) s.view ∙ stands) ∙ does) stays refl refl refl refl
+    tells : (a : Action) (answer : Answer) (act : Admission → Outcome ShareHall) → cause_in (hall_seen s.es s.fs s.ps) a ≡ None → act_in (hall_seen s.es s.fs s.ps) i a ≡ found (get (seen admission_seen s.es) o) (hall_seen s.es s.fs s.ps) act
+        → act (record { free = f.free; next = f.next; shares = shares_seen f.shares; named = true }) ≡ quietly (hall_seen s.es s.fs s.ps) answer → Did a answer s.es s.fs s.ps
+    tells a answer act none is does =
+        rests_as a (quietly (hall_seen s.es s.fs s.ps) answer) answer s.es s.fs s.ps none (is ∙ found_is (get (seen admission_seen s.es) o) (hall_seen s.es s.fs s.ps) act _ (ap (λ (p : Part ShareHall). get p.hall.admissions o) s.view ∙ stands) ∙ does) stays refl refl refl refl
 
-    pub tells_free : Did (FsFree o) (answers.Free f.free) s.es s.fs s.ps
-    tells_free = tells (FsFree o) (answers.Free f.free) _ named refl refl
+    pub tells_free : Did (Free o) (answers.Free f.free) s.es s.fs s.ps
+    tells_free = tells (Free o) (answers.Free f.free) _ named refl refl
 
-    pub tells_waiters : waiters_of f ≡ next_model.waiting_in (shares_seen f.shares) → Did (FsWaiters o) (answers.Count (waiters_of f)) s.es s.fs s.ps
-    tells_waiters waiting = tells (FsWaiters o) (answers.Count (waiters_of f)) _ named refl (ap (λ n. quietly (hall_seen s.es s.fs s.ps) (answers.Count n)) (sym waiting))
+    pub tells_waiters : waiters_of f ≡ next_model.waiting_in (shares_seen f.shares) → Did (Waiters o) (answers.Count (waiters_of f)) s.es s.fs s.ps
+    tells_waiters waiting = tells (Waiters o) (answers.Count (waiters_of f)) _ named refl (ap (λ n. quietly (hall_seen s.es s.fs s.ps) (answers.Count n)) (sym waiting))
 
-    pub tells_weight : (k : ℕ) → Did (FsWeightof o k) (answers.Count (share_of nat_eq f k).weight) s.es s.fs s.ps
-    tells_weight k = tells (FsWeightof o k) (answers.Count (share_of nat_eq f k).weight) _ named refl (ap (λ (t : Share ℕ). quietly (hall_seen s.es s.fs s.ps) (answers.Count t.weight)) (share_seen f.shares k))
+    pub tells_weight : (k : ℕ) → Did (Weight o k) (answers.Count (share_of nat_eq f k).weight) s.es s.fs s.ps
+    tells_weight k = tells (Weight o k) (answers.Count (share_of nat_eq f k).weight) _ named refl (ap (λ (t : Share ℕ). quietly (hall_seen s.es s.fs s.ps) (answers.Count t.weight)) (share_seen f.shares k))
 
-  pub tells_key : (p : ℕ) (x : SharePermit) → get s.ps p ≡ Some x → Did (FsKey p) (answers.Key x.key) s.es s.fs s.ps
+  pub tells_key : (p : ℕ) (x : SharePermit) → get s.ps p ≡ Some x → Did (Key p) (answers.Key x.key) s.es s.fs s.ps
   tells_key p x there =
-      rests_as (FsKey p) (quietly (hall_seen s.es s.fs s.ps) (answers.Key x.key)) (answers.Key x.key) s.es s.fs s.ps (ap unknown_unless (is_there (get s.ps p) x there))
+      rests_as (Key p) (quietly (hall_seen s.es s.fs s.ps) (answers.Key x.key)) (answers.Key x.key) s.es s.fs s.ps (ap unknown_unless (is_there (get s.ps p) x there))
       (found_is (get s.ps p) (hall_seen s.es s.fs s.ps) _ x there) stays refl refl refl refl
 
   -- ---- an admission is made
-  pub makes : (n : ℕ) → (n == 0) ≡ false → Did (FsNew n) answers.Made (insert s.es i (new_admission n)) s.fs s.ps
+  pub makes : (n : ℕ) → (n == 0) ≡ false → Did (Make n) answers.Made (insert s.es i (new_admission n)) s.fs s.ps
   makes n some =
-      rests_as (FsNew n) (model.make (hall_seen s.es s.fs s.ps) i n) answers.Made (insert s.es i (new_admission n)) s.fs s.ps (if_false (n == 0) _ _ some) refl
+      rests_as (Make n) (model.make (hall_seen s.es s.fs s.ps) i n) answers.Made (insert s.es i (new_admission n)) s.fs s.ps (if_false (n == 0) _ _ some) refl
       (halls.makes of_future of_permit AreKept size_of s.es s.fs s.ps s.next i s.kept.hall s.later s.fits (new_admission n) (record { good = good; owned = omega arith }) refl)
       refl
       (ap (λ rs. record { admissions = rs; futures = seen future_seen s.fs; permits = s.ps }) (seen-insert admission_seen s.es i (new_admission n) ∙ ap (insert (seen admission_seen s.es) i) (ap (λ m. record { free = n; next = 0; shares = m; named = true }) nothing_seen)))

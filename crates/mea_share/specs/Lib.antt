@@ -1,5 +1,5 @@
 pub mod Kept
 pub mod Entries
 pub mod Lends
+pub mod Actions
 pub mod Halls
-pub mod Acts

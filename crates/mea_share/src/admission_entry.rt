@@ -1,6 +1,6 @@
-ghost use Rattle.std.specs.Prelude.{ℕ, ◌≡◌, ◌+◌, ◌-◌, ◌<◌, ◌≤◌, ◌^◌, ◌&&◌, ◌==◌, not, [], nat_lt, nat_eq, cond, length, true, false, IfOk, OnOk, OnErr};
-ghost use Rattle.mea_family.specs.Causes.{unknown_unless};
-ghost use Rattle.mea_share_model.specs.Meaning.{refused_if};
+ghost use Rattle.std.specs.Prelude.{ℕ, ◌≡◌, ◌≢◌, ◌+◌, ◌-◌, ◌<◌, ◌≤◌, ◌^◌, ◌&&◌, ◌==◌, not, [], nat_lt, nat_eq, cond, length, Some, true, false, IfOk, OnOk, OnErr};
+ghost use Rattle.mea_family.specs.Causes.{borrowed_by};
+ghost use Rattle.mea_share_model.specs.Actions.{zero_by};
 ghost use Rattle.mea_share_core.specs.Share.{taken, released, weighing};
 ghost use Rattle.mea_share_core.specs.Fair.{Fair, IsSettled, Belongs, share_of, waiters_of, Becomes, IsSame};
 
@@ -72,33 +72,20 @@ impl AdmissionEntry {
         self.plain > 0
     }
 
-    /// Why a use of it is refused: it has no name. It takes no memory.
-    pub fn cause_of_use(&self) -> Option<Stop>
-        ensures { result ≡ unknown_unless self.now.named }
-    {
-        unknown_unless(self.named)
-    }
-
     /// Why the end of its name is refused: it has none, or a plain future or permit borrows it. It takes no memory.
     pub fn cause_of_drop(&self) -> Option<Stop>
-        ensures { result ≡ refused_if self.now.named (nat_lt 0 self.now.plain) Stop.Borrowed }
+        ensures is { result ≡ borrowed_by self.now.named self.now.plain }
+        ensures tells { result ≢ Some Stop.NoMemory }
     {
-        if self.named {
-            borrowed_if(self.has_plain())
-        } else {
-            Some(Stop::Unknown)
-        }
+        unknown_unless(self.named).or(borrowed_if(self.has_plain()))
     }
 
     /// Why the setting of a weight is refused: it has no name, or the weight is 0. It takes no memory.
     pub fn cause_of_weight(&self, weight: u64) -> Option<Stop>
-        ensures { result ≡ refused_if self.now.named (weight == 0) Stop.Zero }
+        ensures is { result ≡ zero_by self.now.named weight }
+        ensures tells { result ≢ Some Stop.NoMemory }
     {
-        if self.named {
-            zero_if(weight == 0)
-        } else {
-            Some(Stop::Unknown)
-        }
+        unknown_unless(self.named).or(zero_if(weight == 0))
     }
 
     /// Ends its name. It takes no memory.

@@ -3,6 +3,7 @@ ghost use Rattle.mea_share_model.specs.Admissions.{is_named};
 ghost use Rattle.mea_share.specs.Lends.{StandsFor};
 
 use crate::admission_entry::Core;
+use crate::meaning::meaning_of;
 use crate::part::SharePart;
 use mea_base::Ready;
 use mea_events::ShareEvent;
@@ -93,7 +94,7 @@ impl Family<ShareModel> for ShareFamily {
     }
 
     fn cause(&self, event: &ShareEvent) -> Option<Stop> {
-        self.admissions.cause(event)
+        self.admissions.cause(meaning_of(event))
     }
 
     fn act(
@@ -103,6 +104,6 @@ impl Family<ShareModel> for ShareFamily {
         ready: &mut Ready<u64>,
     ) -> Result<Answer, Stop> {
         wakes_are_of_the_registered();
-        self.admissions.act(number, event, ready)
+        self.admissions.act(number, meaning_of(event), ready)
     }
 }

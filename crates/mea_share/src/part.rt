@@ -1,23 +1,23 @@
-ghost use Rattle.std.specs.Prelude.{◌≡◌, ◌≤◌, ◌==◌, IfSome, is_some, None, true, nat_lt, if◌then◌else◌};
+ghost use Rattle.std.specs.Prelude.{◌≡◌, ◌≢◌, ◌≤◌, IfSome, is_some, None, Some, true};
 ghost use Rattle.std.specs.FinMap as map;
-ghost use Rattle.mea_family.specs.declared.stop.Stop.TheVariants.{Borrowed, Zero};
+ghost use Rattle.mea_family.specs.Causes.{borrowed_by};
 ghost use Rattle.mea_family.specs.Forms.{is_plain};
-ghost use Rattle.mea_events.specs.declared.share_event.ShareEvent.TheVariants.{FsNew, FsFree, FsWaiters, FsPoll, FsKey, FsEnd, FsDrop, FsWeight, FsWeightof};
 ghost use Rattle.mea_share_model.specs.Admissions.{empty_hall, is_named, is_future, is_permit, plain_of, registered};
-ghost use Rattle.mea_share_model.specs.Meaning.{cause_of, refused_if};
+ghost use Rattle.mea_share_model.specs.Actions.{Make, Free, Waiters, Weight, Weigh, Try, Begin, Poll as PollIt, Key, End, Drop, cause_in};
 ghost use Rattle.mea_share_model.specs.Valid.{AreValid};
-ghost use Rattle.mea_share.specs.Acts.{Acts, ActsQuietly, Begins, Tries};
+ghost use Rattle.mea_share.specs.Actions.{meant};
+ghost use Rattle.mea_share.specs.Halls.{Acts, ActsQuietly};
 ghost use Rattle.mea_share_core.specs.Fair.{waiters_of};
 ghost use Rattle.mea_share_model.specs.Next.{waiting_in};
 ghost use Rattle.mea_share.specs.Kept.{shares_seen};
 ghost use Rattle.mea_share.specs.Lends.{StandsFor, AreSettled};
 
+use crate::actions::ShareAction;
 use crate::admission_entry::{AdmissionEntry, Core};
 use crate::future_entry::FutureEntry;
 use crate::permit_entry::PermitEntry;
 use mea_base::{Poll, Ready};
 use mea_by_name::ByName;
-use mea_events::ShareEvent;
 use mea_family::{Answer, Form, Stop, borrowed_if, unknown_unless, zero_if};
 use mea_share_core::SharedKey;
 use std::alloc::Global;
@@ -83,21 +83,21 @@ impl SharePart {
         let _next = self.next;
     }
 
-    /// Why an event would be refused, but for want of memory; None where it would not. It takes no memory.
-    pub fn cause(&self, event: &ShareEvent) -> Option<Stop>
-        ensures { result ≡ cause_of self.now.hall event.now }
+    /// Why an action is refused; None where it is not. It takes no memory.
+    pub fn cause(&self, action: ShareAction) -> Option<Stop>
+        ensures { result ≡ cause_in self.now.hall (meant action) }
     {
-        match *event {
-            ShareEvent::FsNew(n) => zero_if(n == 0),
-            ShareEvent::FsFree(s) | ShareEvent::FsWaiters(s) => unknown_unless(self.is_named(s)),
-            ShareEvent::FsTry(s, _) | ShareEvent::FsTryo(s, _) => unknown_unless(self.is_named(s)),
-            ShareEvent::FsAcq(s, _) | ShareEvent::FsAcqo(s, _) => unknown_unless(self.is_named(s)),
-            ShareEvent::FsPoll(f, _) => unknown_unless(self.is_future(f)),
-            ShareEvent::FsKey(p) => unknown_unless(self.is_permit(p)),
-            ShareEvent::FsEnd(x) => unknown_unless(self.is_future(x) || self.is_permit(x)),
-            ShareEvent::FsDrop(s) => self.cause_of_drop(s),
-            ShareEvent::FsWeight(s, _, n) => self.cause_of_weight(s, n),
-            ShareEvent::FsWeightof(s, _) => unknown_unless(self.is_named(s)),
+        match action {
+            ShareAction::Make(n) => zero_if(n == 0),
+            ShareAction::Free(o) | ShareAction::Waiters(o) => unknown_unless(self.is_named(o)),
+            ShareAction::Weight(o, _) => unknown_unless(self.is_named(o)),
+            ShareAction::Weigh(o, _, n) => unknown_unless(self.is_named(o)).or(zero_if(n == 0)),
+            ShareAction::Try(o, _, _) => unknown_unless(self.is_named(o)),
+            ShareAction::Begin(o, _, _) => unknown_unless(self.is_named(o)),
+            ShareAction::Poll(f, _) => unknown_unless(self.is_future(f)),
+            ShareAction::Key(p) => unknown_unless(self.is_permit(p)),
+            ShareAction::End(x) => unknown_unless(self.is_future(x) || self.is_permit(x)),
+            ShareAction::Drop(o) => self.cause_of_drop(o),
         }
     }
 
@@ -135,7 +135,7 @@ impl SharePart {
 
     // Why the end of its name is refused: it is unknown, or a plain future or permit borrows it.
     fn cause_of_drop(&self, o: u64) -> Option<Stop>
-        ensures { result ≡ refused_if (is_named self.now.hall o) (nat_lt 0 (plain_of self.now.hall o)) Borrowed }
+        ensures { result ≡ borrowed_by (is_named self.now.hall o) (plain_of self.now.hall o) }
     {
         match self.named_entry(o) {
             Some(entry) => borrowed_if(entry.has_plain()),
@@ -143,50 +143,37 @@ impl SharePart {
         }
     }
 
-    // Why the setting of a weight is refused: the admission is unknown, or the weight is 0.
-    fn cause_of_weight(&self, o: u64, weight: u64) -> Option<Stop>
-        ensures { result ≡ refused_if (is_named self.now.hall o) (weight == 0) Zero }
-    {
-        if self.is_named(o) {
-            zero_if(weight == 0)
-        } else {
-            Some(Stop::Unknown)
-        }
-    }
-
-    /// Plays an event, under a number that is greater than each before, where it has no cause for refusal. Each name is
-    /// looked up once, but for that of a future that is ready, which is taken out.
+    /// Does an action under a number that is greater than each before, or finds why it is refused. Each name is looked up
+    /// once, but for that of a future that is ready, which is taken out. On an error nothing has changed.
     pub fn act(
         &mut self,
         number: u64,
-        event: &ShareEvent,
+        action: ShareAction,
         ready: &mut Ready<u64>,
     ) -> Result<Answer, Stop>
         requires next { self.old.next ≤ number }
         requires room { registered self.old.hall ≤ ready.old.registered }
-        ensures { Acts self.old number event.now result self.new ready.old ready.new }
+        ensures { Acts self.old number (meant action) result self.new ready.old ready.new }
     {
-        match *event {
-            ShareEvent::FsNew(n) => self.make(number, n),
-            ShareEvent::FsFree(s) => self.free(number, s),
-            ShareEvent::FsWaiters(s) => self.waiters(number, s),
-            ShareEvent::FsTry(s, k) => self.try_acquire(number, s, k, Form::Plain),
-            ShareEvent::FsTryo(s, k) => self.try_acquire(number, s, k, Form::Owned),
-            ShareEvent::FsAcq(s, k) => self.begin(number, s, k, Form::Plain),
-            ShareEvent::FsAcqo(s, k) => self.begin(number, s, k, Form::Owned),
-            ShareEvent::FsPoll(f, waker) => self.poll(number, f, waker, ready),
-            ShareEvent::FsKey(p) => self.key(number, p),
-            ShareEvent::FsEnd(x) => self.end(number, x, ready),
-            ShareEvent::FsDrop(s) => self.end_name(number, s),
-            ShareEvent::FsWeight(s, k, n) => self.set_weight(number, s, k, n),
-            ShareEvent::FsWeightof(s, k) => self.weight(number, s, k),
+        match action {
+            ShareAction::Make(n) => self.make(number, n),
+            ShareAction::Free(o) => self.free(number, o),
+            ShareAction::Waiters(o) => self.waiters(number, o),
+            ShareAction::Weight(o, k) => self.weight(number, o, k),
+            ShareAction::Weigh(o, k, n) => self.set_weight(number, o, k, n),
+            ShareAction::Try(o, k, form) => self.try_acquire(number, o, k, form),
+            ShareAction::Begin(o, k, form) => self.begin(number, o, k, form),
+            ShareAction::Poll(f, waker) => self.poll(number, f, waker, ready),
+            ShareAction::Key(p) => self.key(number, p),
+            ShareAction::End(x) => self.end(number, x, ready),
+            ShareAction::Drop(o) => self.end_name(number, o),
         }
     }
 
     // Makes an admission with this many permits.
     fn make(&mut self, number: u64, permits: u64) -> Result<Answer, Stop>
         requires { self.old.next ≤ number }
-        ensures { ActsQuietly self.old number (FsNew permits) result self.new }
+        ensures { ActsQuietly self.old number (Make permits) result self.new }
     {
         if permits == 0 {
             return Err(Stop::Zero);
@@ -202,7 +189,7 @@ impl SharePart {
     // Tells the free permits. It takes no memory.
     fn free(&mut self, number: u64, o: u64) -> Result<Answer, Stop>
         requires { self.old.next ≤ number }
-        ensures { ActsQuietly self.old number (FsFree o) result self.new }
+        ensures { ActsQuietly self.old number (Free o) result self.new }
     {
         let Some(entry) = self.named_entry(o) else {
             return Err(Stop::Unknown);
@@ -215,7 +202,7 @@ impl SharePart {
     // Tells how many futures wait. It takes no memory.
     fn waiters(&mut self, number: u64, o: u64) -> Result<Answer, Stop>
         requires { self.old.next ≤ number }
-        ensures { ActsQuietly self.old number (FsWaiters o) result self.new }
+        ensures { ActsQuietly self.old number (Waiters o) result self.new }
     {
         let Some(entry) = self.named_entry(o) else {
             return Err(Stop::Unknown);
@@ -228,7 +215,7 @@ impl SharePart {
     // Tells the key of a permit. It takes no memory.
     fn key(&mut self, number: u64, p: u64) -> Result<Answer, Stop>
         requires { self.old.next ≤ number }
-        ensures { ActsQuietly self.old number (FsKey p) result self.new }
+        ensures { ActsQuietly self.old number (Key p) result self.new }
     {
         let Some(permit) = self.permits.get(p) else {
             return Err(Stop::Unknown);
@@ -241,7 +228,7 @@ impl SharePart {
     // Tells the weight of a key.
     fn weight(&mut self, number: u64, o: u64, k: u64) -> Result<Answer, Stop>
         requires { self.old.next ≤ number }
-        ensures { ActsQuietly self.old number (FsWeightof o k) result self.new }
+        ensures { ActsQuietly self.old number (Weight o k) result self.new }
     {
         let Some(entry) = self.named_entry(o) else {
             return Err(Stop::Unknown);
@@ -257,7 +244,7 @@ impl SharePart {
     // Sets the weight of a key.
     fn set_weight(&mut self, number: u64, o: u64, k: u64, weight: u64) -> Result<Answer, Stop>
         requires { self.old.next ≤ number }
-        ensures { ActsQuietly self.old number (FsWeight o k weight) result self.new }
+        ensures { ActsQuietly self.old number (Weigh o k weight) result self.new }
     {
         let Some(entry) = self.admissions.get_mut(o) else {
             return Err(Stop::Unknown);
@@ -278,14 +265,14 @@ impl SharePart {
     // Makes a future of a permit for a key.
     fn begin(&mut self, number: u64, o: u64, k: u64, form: Form) -> Result<Answer, Stop>
         requires { self.old.next ≤ number }
-        ensures { Begins self.old number o k (is_plain form) result self.new }
+        ensures { ActsQuietly self.old number (Begin o k (is_plain form)) result self.new }
     {
         let plain = form.is_plain();
         let Some(entry) = self.admissions.get_mut(o) else {
             return Err(Stop::Unknown);
         };
-        if let Some(stop) = entry.cause_of_use() {
-            return Err(stop);
+        if !entry.is_named() {
+            return Err(Stop::Unknown);
         }
         let Ok(key) = SharedKey::new(self.alloc, k) else {
             return Err(Stop::NoMemory);
@@ -301,14 +288,14 @@ impl SharePart {
     // Takes a permit for a key, where one is free and nobody waits. Room for the permit is made first.
     fn try_acquire(&mut self, number: u64, o: u64, k: u64, form: Form) -> Result<Answer, Stop>
         requires { self.old.next ≤ number }
-        ensures { Tries self.old number o k (is_plain form) result self.new }
+        ensures { ActsQuietly self.old number (Try o k (is_plain form)) result self.new }
     {
         let plain = form.is_plain();
         let Some(entry) = self.admissions.get_mut(o) else {
             return Err(Stop::Unknown);
         };
-        if let Some(stop) = entry.cause_of_use() {
-            return Err(stop);
+        if !entry.is_named() {
+            return Err(Stop::Unknown);
         }
         let Ok((key, permit)) = PermitEntry::new(self.alloc, o, k, plain) else {
             return Err(Stop::NoMemory);
@@ -343,7 +330,7 @@ impl SharePart {
         ready: &mut Ready<u64>,
     ) -> Result<Answer, Stop>
         requires { self.old.next ≤ number }
-        ensures { Acts self.old number (FsPoll f waker) result self.new ready.old ready.new }
+        ensures { Acts self.old number (PollIt f waker) result self.new ready.old ready.new }
     {
         let Some(future) = self.futures.get_mut(f) else {
             return Err(Stop::Unknown);
@@ -377,7 +364,7 @@ impl SharePart {
     fn end(&mut self, number: u64, x: u64, ready: &mut Ready<u64>) -> Result<Answer, Stop>
         requires next { self.old.next ≤ number }
         requires room { registered self.old.hall ≤ ready.old.registered }
-        ensures { Acts self.old number (FsEnd x) result self.new ready.old ready.new }
+        ensures { Acts self.old number (End x) result self.new ready.old ready.new }
     {
         let Some(future) = self.futures.take(x) else {
             return self.end_permit(number, x, ready);
@@ -398,7 +385,7 @@ impl SharePart {
         requires next { self.old.next ≤ number }
         requires apart { map.get self.old.hall.futures p ≡ None }
         requires room { registered self.old.hall ≤ ready.old.registered }
-        ensures { Acts self.old number (FsEnd p) result self.new ready.old ready.new }
+        ensures { Acts self.old number (End p) result self.new ready.old ready.new }
     {
         let Some(permit) = self.permits.take(p) else {
             return Err(Stop::Unknown);
@@ -416,7 +403,7 @@ impl SharePart {
     // Ends the name of an admission. It takes no memory.
     fn end_name(&mut self, number: u64, o: u64) -> Result<Answer, Stop>
         requires { self.old.next ≤ number }
-        ensures { ActsQuietly self.old number (FsDrop o) result self.new }
+        ensures { ActsQuietly self.old number (Drop o) result self.new }
     {
         let Some(entry) = self.admissions.get_mut(o) else {
             return Err(Stop::Unknown);

@@ -1,14 +1,14 @@
 use Rattle.std.proofs.Common.{◌≡◌, ◌≤◌, sym, subst}
 use Rattle.std.specs.FinMap.{remove}
 use Rattle.mea_by_name.proofs.Own.{seen-none}
-use Rattle.mea_events.specs.declared.share_event.ShareEvent.TheVariants.{FsEnd}
 use Rattle.mea_family.specs.Play.{Part}
 use Rattle.mea_share_model.specs.Admissions.{ShareHall, registered}
+use Rattle.mea_share_model.specs.Actions.{End}
 use Rattle.mea_share.specs.Kept.{future_seen}
-use Rattle.mea_share.specs.Acts.{Acts}
+use Rattle.mea_share.specs.Halls.{Acts}
 use Rattle.mea_share.proofs.Sites.{site, part_of}
-use Rattle.mea_share.proofs.LookUps.{without_future, nothing_left, future_home, its_good, its_room, over_put}
-use Rattle.mea_share.proofs.Events.{belongs, future_counts, ends_future}
+use Rattle.mea_share.proofs.LookUps.{without_future, nothing_left, future_home, its_room, over_put}
+use Rattle.mea_share.proofs.Events.{good, belongs, future_counts, ends_future}
 use Rattle.mea_share.proofs.part.SharePart.end.Goals as goal
 
 pub invariant_of-self : goal.invariant_of-self
@@ -22,13 +22,13 @@ end_permit-requires c =
 pub returns-in_default : goal.returns-in_default
 returns-in_default c =
     let left : ◌≡◌ {A = Part ShareHall} (part_of c.self.inside.admissions c.take.new.self c.self.inside.permits c.self.inside.next) c.args.self.now = rw c.take.ensures.rest (without_future (site c.self.inside.admissions c.self.inside.futures c.self.inside.permits c.self.inside.next c.self.view_is c.self.invariant c.requires.next c.ranges.number.fits) c.args.x (sym c.in_default.ensures.value)).1 in
-    subst (λ (p : Part ShareHall). Acts p c.args.number (FsEnd c.args.x) c.end_permit.result c.end_permit.new.self c.args.ready.now c.end_permit.new.ready) left c.end_permit.ensures
+    subst (λ (p : Part ShareHall). Acts p c.args.number (End c.args.x) c.end_permit.result c.end_permit.new.self c.args.ready.now c.end_permit.new.ready) left c.end_permit.ensures
 
 pub at_mut-entry-requires : goal.at_mut-entry-requires
 at_mut-entry-requires c = rw c.admission-o.ensures (future_home (site c.self.inside.admissions c.self.inside.futures c.self.inside.permits c.self.inside.next c.self.view_is c.self.invariant c.requires.next c.ranges.number.fits) c.args.x c.in-Some.future (sym c.in-Some.ensures.value))
 
 pub end_future-requires : goal.end_future-requires
-end_future-requires c = record { belongs = belongs (site c.self.inside.admissions c.self.inside.futures c.self.inside.permits c.self.inside.next c.self.view_is c.self.invariant c.requires.next c.ranges.number.fits) c.admission-o.result c.at_mut-entry.result.now c.at_mut-entry.ensures.value c.args.x c.in-Some.future (sym c.in-Some.ensures.value) (sym c.admission-o.ensures); quiet = (its_good (site c.self.inside.admissions c.self.inside.futures c.self.inside.permits c.self.inside.next c.self.view_is c.self.invariant c.requires.next c.ranges.number.fits) c.admission-o.result c.at_mut-entry.result.now c.at_mut-entry.ensures.value).quiet; room = its_room (site c.self.inside.admissions c.self.inside.futures c.self.inside.permits c.self.inside.next c.self.view_is c.self.invariant c.requires.next c.ranges.number.fits) c.admission-o.result c.at_mut-entry.result.now c.args.ready.now c.at_mut-entry.ensures.value c.requires.room }
+end_future-requires c = record { belongs = belongs (site c.self.inside.admissions c.self.inside.futures c.self.inside.permits c.self.inside.next c.self.view_is c.self.invariant c.requires.next c.ranges.number.fits) c.admission-o.result c.at_mut-entry.result.now c.at_mut-entry.ensures.value c.args.x c.in-Some.future (sym c.in-Some.ensures.value) (sym c.admission-o.ensures); quiet = (good (site c.self.inside.admissions c.self.inside.futures c.self.inside.permits c.self.inside.next c.self.view_is c.self.invariant c.requires.next c.ranges.number.fits) c.admission-o.result c.at_mut-entry.result.now c.at_mut-entry.ensures.value).quiet; room = its_room (site c.self.inside.admissions c.self.inside.futures c.self.inside.permits c.self.inside.next c.self.view_is c.self.invariant c.requires.next c.ranges.number.fits) c.admission-o.result c.at_mut-entry.result.now c.args.ready.now c.at_mut-entry.ensures.value c.requires.room }
 
 pub finish-requires : goal.finish-requires
 finish-requires c = record { things = rw c.end_future.ensures.2.rest (future_counts (site c.self.inside.admissions c.self.inside.futures c.self.inside.permits c.self.inside.next c.self.view_is c.self.invariant c.requires.next c.ranges.number.fits) c.admission-o.result c.at_mut-entry.result.now c.at_mut-entry.ensures.value c.args.x c.in-Some.future (sym c.in-Some.ensures.value) (sym c.admission-o.ensures)).0; plain = rw (c.end_future.ensures.2.rest, c.is_plain-plain.ensures) (future_counts (site c.self.inside.admissions c.self.inside.futures c.self.inside.permits c.self.inside.next c.self.view_is c.self.invariant c.requires.next c.ranges.number.fits) c.admission-o.result c.at_mut-entry.result.now c.at_mut-entry.ensures.value c.args.x c.in-Some.future (sym c.in-Some.ensures.value) (sym c.admission-o.ensures)).1 }

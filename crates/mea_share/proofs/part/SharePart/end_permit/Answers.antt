@@ -1,21 +1,18 @@
 use Rattle.std.proofs.Common.{refl, sym}
-use Rattle.mea_family.specs.declared.stop.Stop.TheVariants.{Unknown}
-use Rattle.mea_events.specs.declared.share_event.ShareEvent.TheVariants.{FsEnd}
-use Rattle.mea_share_model.specs.Meaning.{cause_of}
-use Rattle.mea_share.specs.Halls.{TakesNoMemory}
-use Rattle.mea_share.proofs.Sites.{site, refuses}
-use Rattle.mea_share.proofs.LookUps.{without_permit, ends_nothing, its_good, its_room, over_put, future_none}
-use Rattle.mea_share.proofs.Events.{permit_lives, permit_counts, ends_permit}
+use Rattle.mea_share_model.specs.Actions.{End}
+use Rattle.mea_share.proofs.Sites.{site, unknown}
+use Rattle.mea_share.proofs.LookUps.{without_permit, ends_nothing, its_room, over_put, future_none}
+use Rattle.mea_share.proofs.Events.{good, permit_lives, permit_counts, ends_permit}
 use Rattle.mea_share.proofs.part.SharePart.end_permit.Goals as goal
 
 pub invariant_of-self : goal.invariant_of-self
 invariant_of-self c = rw c.take.ensures.rest (without_permit (site c.self.inside.admissions c.self.inside.futures c.self.inside.permits c.self.inside.next c.self.view_is c.self.invariant c.requires.next c.ranges.number.fits) c.args.p (sym c.in_default.ensures.value)).0
 
 pub returns-in_default : goal.returns-in_default
-returns-in_default c = (refuses (site c.self.inside.admissions c.self.inside.futures c.self.inside.permits c.self.inside.next c.self.view_is c.self.invariant c.requires.next c.ranges.number.fits) (λ h. cause_of h (FsEnd c.args.p)) (TakesNoMemory (FsEnd c.args.p)) Unknown (ends_nothing (site c.self.inside.admissions c.self.inside.futures c.self.inside.permits c.self.inside.next c.self.view_is c.self.invariant c.requires.next c.ranges.number.fits) c.args.p (future_none (site c.self.inside.admissions c.self.inside.futures c.self.inside.permits c.self.inside.next c.self.view_is c.self.invariant c.requires.next c.ranges.number.fits) c.args.p c.requires.apart) (sym c.in_default.ensures.value)), rw c.take.ensures.rest (without_permit (site c.self.inside.admissions c.self.inside.futures c.self.inside.permits c.self.inside.next c.self.view_is c.self.invariant c.requires.next c.ranges.number.fits) c.args.p (sym c.in_default.ensures.value)).1, refl)
+returns-in_default c = (unknown (site c.self.inside.admissions c.self.inside.futures c.self.inside.permits c.self.inside.next c.self.view_is c.self.invariant c.requires.next c.ranges.number.fits) (End c.args.p) (ends_nothing (site c.self.inside.admissions c.self.inside.futures c.self.inside.permits c.self.inside.next c.self.view_is c.self.invariant c.requires.next c.ranges.number.fits) c.args.p (future_none (site c.self.inside.admissions c.self.inside.futures c.self.inside.permits c.self.inside.next c.self.view_is c.self.invariant c.requires.next c.ranges.number.fits) c.args.p c.requires.apart) (sym c.in_default.ensures.value)), rw c.take.ensures.rest (without_permit (site c.self.inside.admissions c.self.inside.futures c.self.inside.permits c.self.inside.next c.self.view_is c.self.invariant c.requires.next c.ranges.number.fits) c.args.p (sym c.in_default.ensures.value)).1, refl)
 
 pub end_permit-requires : goal.end_permit-requires
-end_permit-requires c = record { lives = rw c.key.ensures (permit_lives (site c.self.inside.admissions c.self.inside.futures c.self.inside.permits c.self.inside.next c.self.view_is c.self.invariant c.requires.next c.ranges.number.fits) c.admission-o.result c.at_mut-entry.result.now c.at_mut-entry.ensures.value c.args.p c.in-Some.permit (sym c.in-Some.ensures.value) (sym c.admission-o.ensures)); quiet = (its_good (site c.self.inside.admissions c.self.inside.futures c.self.inside.permits c.self.inside.next c.self.view_is c.self.invariant c.requires.next c.ranges.number.fits) c.admission-o.result c.at_mut-entry.result.now c.at_mut-entry.ensures.value).quiet; room = its_room (site c.self.inside.admissions c.self.inside.futures c.self.inside.permits c.self.inside.next c.self.view_is c.self.invariant c.requires.next c.ranges.number.fits) c.admission-o.result c.at_mut-entry.result.now c.args.ready.now c.at_mut-entry.ensures.value c.requires.room }
+end_permit-requires c = record { lives = rw c.key.ensures (permit_lives (site c.self.inside.admissions c.self.inside.futures c.self.inside.permits c.self.inside.next c.self.view_is c.self.invariant c.requires.next c.ranges.number.fits) c.admission-o.result c.at_mut-entry.result.now c.at_mut-entry.ensures.value c.args.p c.in-Some.permit (sym c.in-Some.ensures.value) (sym c.admission-o.ensures)); quiet = (good (site c.self.inside.admissions c.self.inside.futures c.self.inside.permits c.self.inside.next c.self.view_is c.self.invariant c.requires.next c.ranges.number.fits) c.admission-o.result c.at_mut-entry.result.now c.at_mut-entry.ensures.value).quiet; room = its_room (site c.self.inside.admissions c.self.inside.futures c.self.inside.permits c.self.inside.next c.self.view_is c.self.invariant c.requires.next c.ranges.number.fits) c.admission-o.result c.at_mut-entry.result.now c.args.ready.now c.at_mut-entry.ensures.value c.requires.room }
 
 pub finish-requires : goal.finish-requires
 finish-requires c = record { things = rw c.end_permit.ensures.2.rest (permit_counts (site c.self.inside.admissions c.self.inside.futures c.self.inside.permits c.self.inside.next c.self.view_is c.self.invariant c.requires.next c.ranges.number.fits) c.admission-o.result c.at_mut-entry.result.now c.at_mut-entry.ensures.value c.args.p c.in-Some.permit (sym c.in-Some.ensures.value) (sym c.admission-o.ensures)).0; plain = rw (c.end_permit.ensures.2.rest, c.is_plain.ensures) (permit_counts (site c.self.inside.admissions c.self.inside.futures c.self.inside.permits c.self.inside.next c.self.view_is c.self.invariant c.requires.next c.ranges.number.fits) c.admission-o.result c.at_mut-entry.result.now c.at_mut-entry.ensures.value c.args.p c.in-Some.permit (sym c.in-Some.ensures.value) (sym c.admission-o.ensures)).1 }

@@ -1,29 +1,26 @@
 use Rattle.std.proofs.Common.{rules, ap, sym, refl}
-use Rattle.mea_family.specs.declared.stop.Stop.TheVariants.{Unknown}
 use Rattle.mea_family.specs.Causes.{unknown_unless}
-use Rattle.mea_events.specs.declared.share_event.ShareEvent.TheVariants.{FsPoll}
 use Rattle.mea_base.proofs.Maps.{get-there, is_there}
-use Rattle.mea_share_model.specs.Meaning.{cause_of}
-use Rattle.mea_share.specs.Halls.{TakesNoMemory}
-use Rattle.mea_share.proofs.Sites.{site, no_future, refuses, lacks_memory}
+use Rattle.mea_share_model.specs.Actions.{Poll}
+use Rattle.mea_share.proofs.Sites.{site, no_future, unknown, lacks_memory}
 use Rattle.mea_share.proofs.LookUps.{may_poll, same_future, same_both}
 use Rattle.mea_share.proofs.Events.{belongs, pended, readied_now, failed}
 use Rattle.mea_share.proofs.part.SharePart.poll.Goals as goal
 
 pub returns-in_default : goal.returns-in_default
-returns-in_default c = (refuses (site c.self.inside.admissions c.self.inside.futures c.self.inside.permits c.self.inside.next c.self.view_is c.self.invariant c.requires c.ranges.number.fits) (λ h. cause_of h (FsPoll c.args.f c.args.waker)) (TakesNoMemory (FsPoll c.args.f c.args.waker)) Unknown (ap unknown_unless (no_future (site c.self.inside.admissions c.self.inside.futures c.self.inside.permits c.self.inside.next c.self.view_is c.self.invariant c.requires c.ranges.number.fits) c.args.f (sym c.in_default.ensures.value))), search rules, refl)
+returns-in_default c = (unknown (site c.self.inside.admissions c.self.inside.futures c.self.inside.permits c.self.inside.next c.self.view_is c.self.invariant c.requires c.ranges.number.fits) (Poll c.args.f c.args.waker) (ap unknown_unless (no_future (site c.self.inside.admissions c.self.inside.futures c.self.inside.permits c.self.inside.next c.self.view_is c.self.invariant c.requires c.ranges.number.fits) c.args.f (sym c.in_default.ensures.value))), search rules, refl)
 
 pub invariant_of-self-in_default-permit : goal.invariant_of-self-in_default-permit
 invariant_of-self-in_default-permit c = (same_future (site c.self.inside.admissions c.self.inside.futures c.self.inside.permits c.self.inside.next c.self.view_is c.self.invariant c.requires c.ranges.number.fits) c.args.f c.in-Some.future.now (sym c.in-Some.ensures.value)).0
 
 pub returns-in_default-permit : goal.returns-in_default-permit
-returns-in_default-permit c = (lacks_memory (site c.self.inside.admissions c.self.inside.futures c.self.inside.permits c.self.inside.next c.self.view_is c.self.invariant c.requires c.ranges.number.fits) (λ h. cause_of h (FsPoll c.args.f c.args.waker)) (TakesNoMemory (FsPoll c.args.f c.args.waker)) (may_poll (site c.self.inside.admissions c.self.inside.futures c.self.inside.permits c.self.inside.next c.self.view_is c.self.invariant c.requires c.ranges.number.fits) c.args.f c.args.waker c.in-Some.future.now (sym c.in-Some.ensures.value)) (λ no. no), (same_future (site c.self.inside.admissions c.self.inside.futures c.self.inside.permits c.self.inside.next c.self.view_is c.self.invariant c.requires c.ranges.number.fits) c.args.f c.in-Some.future.now (sym c.in-Some.ensures.value)).1, refl)
+returns-in_default-permit c = (lacks_memory (site c.self.inside.admissions c.self.inside.futures c.self.inside.permits c.self.inside.next c.self.view_is c.self.invariant c.requires c.ranges.number.fits) (Poll c.args.f c.args.waker) (may_poll (site c.self.inside.admissions c.self.inside.futures c.self.inside.permits c.self.inside.next c.self.view_is c.self.invariant c.requires c.ranges.number.fits) c.args.f c.args.waker c.in-Some.future.now (sym c.in-Some.ensures.value)) (λ no. no), (same_future (site c.self.inside.admissions c.self.inside.futures c.self.inside.permits c.self.inside.next c.self.view_is c.self.invariant c.requires c.ranges.number.fits) c.args.f c.in-Some.future.now (sym c.in-Some.ensures.value)).1, refl)
 
 pub invariant_of-self-in_default-insert : goal.invariant_of-self-in_default-insert
 invariant_of-self-in_default-insert c = rw c.in_default-insert.ensures.err (same_both (site c.self.inside.admissions c.self.inside.futures c.self.inside.permits c.self.inside.next c.self.view_is c.self.invariant c.requires c.ranges.number.fits) c.admission.result c.at_mut-entry.result.now c.args.f c.in-Some.future.now c.at_mut-entry.ensures.value (sym c.in-Some.ensures.value)).0
 
 pub returns-in_default-insert : goal.returns-in_default-insert
-returns-in_default-insert c = rw c.in_default-insert.ensures.err (lacks_memory (site c.self.inside.admissions c.self.inside.futures c.self.inside.permits c.self.inside.next c.self.view_is c.self.invariant c.requires c.ranges.number.fits) (λ h. cause_of h (FsPoll c.args.f c.args.waker)) (TakesNoMemory (FsPoll c.args.f c.args.waker)) (may_poll (site c.self.inside.admissions c.self.inside.futures c.self.inside.permits c.self.inside.next c.self.view_is c.self.invariant c.requires c.ranges.number.fits) c.args.f c.args.waker c.in-Some.future.now (sym c.in-Some.ensures.value)) (λ no. no), (same_both (site c.self.inside.admissions c.self.inside.futures c.self.inside.permits c.self.inside.next c.self.view_is c.self.invariant c.requires c.ranges.number.fits) c.admission.result c.at_mut-entry.result.now c.args.f c.in-Some.future.now c.at_mut-entry.ensures.value (sym c.in-Some.ensures.value)).1, refl)
+returns-in_default-insert c = rw c.in_default-insert.ensures.err (lacks_memory (site c.self.inside.admissions c.self.inside.futures c.self.inside.permits c.self.inside.next c.self.view_is c.self.invariant c.requires c.ranges.number.fits) (Poll c.args.f c.args.waker) (may_poll (site c.self.inside.admissions c.self.inside.futures c.self.inside.permits c.self.inside.next c.self.view_is c.self.invariant c.requires c.ranges.number.fits) c.args.f c.args.waker c.in-Some.future.now (sym c.in-Some.ensures.value)) (λ no. no), (same_both (site c.self.inside.admissions c.self.inside.futures c.self.inside.permits c.self.inside.next c.self.view_is c.self.invariant c.requires c.ranges.number.fits) c.admission.result c.at_mut-entry.result.now c.args.f c.in-Some.future.now c.at_mut-entry.ensures.value (sym c.in-Some.ensures.value)).1, refl)
 
 pub poll-requires : goal.poll-requires
 poll-requires c = belongs (site c.self.inside.admissions c.self.inside.futures c.self.inside.permits c.self.inside.next c.self.view_is c.self.invariant c.requires c.ranges.number.fits) c.admission.result c.at_mut-entry.result.now c.at_mut-entry.ensures.value c.args.f c.in-Some.future.now (sym c.in-Some.ensures.value) (sym c.admission.ensures)
@@ -35,7 +32,7 @@ pub invariant_of-self-in-Err : goal.invariant_of-self-in-Err
 invariant_of-self-in-Err c = rw (c.remove.ensures.rest, c.in-Ok-insert.ensures.ok, c.in-Ok.ensures) (failed (site c.self.inside.admissions c.self.inside.futures c.self.inside.permits c.self.inside.next c.self.view_is c.self.invariant c.requires c.ranges.number.fits) c.admission.result c.at_mut-entry.result.now c.at_mut-entry.ensures.value c.args.f c.in-Some.future.now (sym c.in-Some.ensures.value) (sym c.admission.ensures) c.poll.new.self c.poll.new.future c.in-Err.ensures.err.0 c.in-Err.ensures.same c.in-Err.ensures.err.1).0
 
 pub returns-in-Err : goal.returns-in-Err
-returns-in-Err c = (lacks_memory (site c.self.inside.admissions c.self.inside.futures c.self.inside.permits c.self.inside.next c.self.view_is c.self.invariant c.requires c.ranges.number.fits) (λ h. cause_of h (FsPoll c.args.f c.args.waker)) (TakesNoMemory (FsPoll c.args.f c.args.waker)) (may_poll (site c.self.inside.admissions c.self.inside.futures c.self.inside.permits c.self.inside.next c.self.view_is c.self.invariant c.requires c.ranges.number.fits) c.args.f c.args.waker c.in-Some.future.now (sym c.in-Some.ensures.value)) (λ no. no), rw (c.remove.ensures.rest, c.in-Ok-insert.ensures.ok, c.in-Ok.ensures) (failed (site c.self.inside.admissions c.self.inside.futures c.self.inside.permits c.self.inside.next c.self.view_is c.self.invariant c.requires c.ranges.number.fits) c.admission.result c.at_mut-entry.result.now c.at_mut-entry.ensures.value c.args.f c.in-Some.future.now (sym c.in-Some.ensures.value) (sym c.admission.ensures) c.poll.new.self c.poll.new.future c.in-Err.ensures.err.0 c.in-Err.ensures.same c.in-Err.ensures.err.1).1, c.in-Err.ensures.err.2)
+returns-in-Err c = (lacks_memory (site c.self.inside.admissions c.self.inside.futures c.self.inside.permits c.self.inside.next c.self.view_is c.self.invariant c.requires c.ranges.number.fits) (Poll c.args.f c.args.waker) (may_poll (site c.self.inside.admissions c.self.inside.futures c.self.inside.permits c.self.inside.next c.self.view_is c.self.invariant c.requires c.ranges.number.fits) c.args.f c.args.waker c.in-Some.future.now (sym c.in-Some.ensures.value)) (λ no. no), rw (c.remove.ensures.rest, c.in-Ok-insert.ensures.ok, c.in-Ok.ensures) (failed (site c.self.inside.admissions c.self.inside.futures c.self.inside.permits c.self.inside.next c.self.view_is c.self.invariant c.requires c.ranges.number.fits) c.admission.result c.at_mut-entry.result.now c.at_mut-entry.ensures.value c.args.f c.in-Some.future.now (sym c.in-Some.ensures.value) (sym c.admission.ensures) c.poll.new.self c.poll.new.future c.in-Err.ensures.err.0 c.in-Err.ensures.same c.in-Err.ensures.err.1).1, c.in-Err.ensures.err.2)
 
 pub remove-requires-in-Ok-Pending : goal.remove-requires-in-Ok-Pending
 remove-requires-in-Ok-Pending c = rw c.in-Ok-insert.ensures.ok (is_there _ _ (get-there c.self.inside.permits c.args.number _))
