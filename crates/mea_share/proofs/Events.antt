@@ -1,7 +1,7 @@
 -- what each event does to one admission, its future and its permit
 use Rattle.std.proofs.Common.{◌≡◌, ◌≢◌, ℕ, ◌+◌, ◌-◌, ◌<◌, ◌≤◌, ◌^◌, ◌==◌, ◌&&◌, ◌++◌, inl, inr, Bool, true, false, not, cond, List, [], nat_eq, nat_lt, Some, None, IsSome, is_some, Ok, if◌then◌else◌, refl, ap, sym, subst, ◌∙◌, arith, append-nil}
 use Rattle.std.specs.FinMap.{get, insert, remove, len}
-use Rattle.std.proofs.lemmas.Bool.{cases_lt, eq-eqb}
+use Rattle.std.proofs.lemmas.Bool.{cases_lt, eq-eqb, ne_eqb}
 use Rattle.std.proofs.lemmas.Bool.Decides.{nat_tests}
 use Rattle.futures.specs.declared.task.Poll.{Poll}
 use Rattle.futures.specs.declared.task.Poll.TheVariants.{Ready, Pending}
@@ -135,19 +135,19 @@ module _ {old : Part ShareHall} {i : ℕ} (s : Site old i) where
     free_is : (r : Admission) → 0 < r.free → (r.free == 0) ≡ false
     free_is r some = grind (arith, nat_tests)
 
-    pub holds_one : (plain : Bool) (k : ℕ) (e' : KeptAdmission) → cause_in (hall_seen s.es s.fs s.ps) (Try o k plain) ≡ None → Takes e k true e'
+    pub holds_one : (plain got : Bool) (k : ℕ) (e' : KeptAdmission) → cause_in (hall_seen s.es s.fs s.ps) (Try o k plain) ≡ None → (e.fair.free ≡ 0 → ⊥) → Takes e k got e'
         → Did s (Try o k plain) answers.Held (insert s.es o (begun e' plain)) s.fs (insert s.ps i (record { admission = o; key = k; plain = plain }))
-    holds_one plain k e' none takes =
+    holds_one plain false k e' none some takes = absurd (some (takes.none refl).0)
+    holds_one plain true k e' none some takes =
         let fresh = halls.no_second of_future of_permit AreKept size_of s.es s.fs s.ps s.next i s.kept.hall s.later s.fits in
-        let took = takes.some refl in
-        let becomes = took.1 in
+        let becomes = (takes.some refl).1 in
         let t = taken (share_of nat_eq e.fair k) in
         let p : SharePermit = record { admission = o; key = k; plain = plain } in
         let h = hall_seen s.es s.fs s.ps in
         let u = taken (share_at (shares_seen e.fair.shares) k) in
         let things = ap (λ (d : KeptAdmission). d.things) takes.rest in
         rests_as s (Try o k plain) (quietly (record h { admissions = insert h.admissions o (model.taken_for (admission_seen e) k); permits = insert h.permits i p }) answers.Held) answers.Held (insert s.es o (begun e' plain)) s.fs (insert s.ps i p) none
-        (step_is (model.try h i o k plain) ∙ if_false (e.fair.free == 0) _ _ (free_is (admission_seen e) took.0))
+        (step_is (model.try h i o k plain) ∙ if_false (e.fair.free == 0) _ _ (ne_eqb e.fair.free 0 some))
         (turn (begun e' plain) s.fs (insert s.ps i p) Stays (Comes i p (omega arith) refl (λ y there. absurd (cc)))
         (rw (own-put of_permit o s.ps i p refl) (good_with_permit e' (own of_future o s.fs) (own of_permit o s.ps) i p (good_becomes e e' _ _ k t (e.fair.free - 1) e.fair.next good takes.rest becomes takes.settled) (own-none of_permit o s.ps i fresh)))
         (rw (own-put of_permit o s.ps i p refl) (let more = len-new (own of_permit o s.ps) i p (own-none of_permit o s.ps i fresh) in omega (arith, was_owned, more, becomes.shares.held, becomes.shares.waiting)))
@@ -162,11 +162,9 @@ module _ {old : Part ShareHall} {i : ℕ} (s : Site old i) where
     permit_undone p = put_gone s.ps i p ∙ gone_none s.ps i (halls.no_second of_future of_permit AreKept size_of s.es s.fs s.ps s.next i s.kept.hall s.later s.fits)
 
     -- none is free
-    pub lacks : (plain : Bool) (k : ℕ) (e' : KeptAdmission) (p : SharePermit) → cause_in (hall_seen s.es s.fs s.ps) (Try o k plain) ≡ None → Takes e k false e' → Did s (Try o k plain) answers.Lacking (insert s.es o e') s.fs (remove (insert s.ps i p) i)
-    lacks plain k e' p none takes =
-        let now = takes.none refl in
-        rw (same_put e' now.1, permit_undone p) (rests_as s (Try o k plain) (quietly (hall_seen s.es s.fs s.ps) answers.Lacking) answers.Lacking s.es s.fs s.ps none
-        (step_is (model.try (hall_seen s.es s.fs s.ps) i o k plain) ∙ if_true (e.fair.free == 0) _ _ (eq-eqb e.fair.free 0 now.0)) (stays s) refl refl refl refl)
+    pub lacks : (plain : Bool) (k : ℕ) → cause_in (hall_seen s.es s.fs s.ps) (Try o k plain) ≡ None → e.fair.free ≡ 0 → Did s (Try o k plain) answers.Lacking (insert s.es o e) s.fs s.ps
+    lacks plain k none nothing = rw (same_put e refl) (rests_as s (Try o k plain) (quietly (hall_seen s.es s.fs s.ps) answers.Lacking) answers.Lacking s.es s.fs s.ps none
+        (step_is (model.try (hall_seen s.es s.fs s.ps) i o k plain) ∙ if_true (e.fair.free == 0) _ _ (eq-eqb e.fair.free 0 nothing)) (stays s) refl refl refl refl)
 
     pub not_tried : (e' : KeptAdmission) (p : SharePermit) → e' ≡ e → AreKeptAdmissions (insert s.es o e') s.fs (remove (insert s.ps i p) i) s.next × (◌≡◌ {A = Part ShareHall} (part_of (insert s.es o e') s.fs (remove (insert s.ps i p) i) s.next) old)
     not_tried e' p is = rw (same_put e' is, permit_undone p) (s.kept, s.view)

@@ -105,28 +105,37 @@ module _ {old : Part ShareHall} {i : ℕ} (s : Site old i) where
     kept_as : AreKeptAdmissions es fs ps (i + 1)
     kept_as = record { hall = kept; valid = subst AreValid (ap (λ (p : Outcome ShareHall). p.hall) is ∙ sym moved) (valid_after (hall_seen s.es s.fs s.ps) s.next i (low s.es s.fs s.ps s.next s.kept.hall) s.later s.kept.valid a none) }
 
-    allowed_as : cause_in old.hall a ≡ None
-    allowed_as = subst (λ (p : Part ShareHall). cause_in p.hall a ≡ None) s.view none
-
     now_registered : registered o.hall ≡ all_waiters es
     now_registered = sym (ap registered moved) ∙ registered_is es fs ps (i + 1) kept
 
     -- what is said of the admissions as they are kept is said of them as they are seen
     pub yields_as : (before after : Waking ℕ) → after.wakers ≡ before.wakers ++ o.wakes → after.registered + all_waiters s.es ≡ before.registered + all_waiters es → DidWake a answer es fs ps before after
-    yields_as before after wakes counted = (kept_as, (allowed_as, subst (λ p. PartYields registered p i (act_in p.hall i a) answer (part_of es fs ps (i + 1)) before after) s.view (rw is (record {
-      replied = replied;
-      moved = ap (λ h. record { hall = h; next = i + 1 }) moved;
-      woken = wakes;
-      counted = omega (arith, counted, now_registered, registered_is s.es s.fs s.ps s.next s.kept.hall);
-    }))))
+    yields_as before after wakes counted = (
+      kept_as,
+      subst (λ p. Acts p i a (Ok answer) (part_of es fs ps (i + 1)) before after) s.view (
+        none,
+        rw is (record {
+          replied = replied;
+          moved = ap (λ h. record { hall = h; next = i + 1 }) moved;
+          woken = wakes;
+          counted = omega (arith, counted, now_registered, registered_is s.es s.fs s.ps s.next s.kept.hall);
+        }),
+      ),
+    )
 
     pub rests_as : o.wakes ≡ [] → all_waiters es ≡ all_waiters s.es → Did a answer es fs ps
-    rests_as silent counted = (kept_as, (allowed_as, subst (λ p. PartRests registered p i (act_in p.hall i a) answer (part_of es fs ps (i + 1))) s.view (rw is (record {
-      replied = replied;
-      moved = ap (λ h. record { hall = h; next = i + 1 }) moved;
-      silent = silent;
-      counted = now_registered ∙ counted ∙ sym (registered_is s.es s.fs s.ps s.next s.kept.hall);
-    }))))
+    rests_as silent counted = (
+      kept_as,
+      subst (λ p. ActsQuietly p i a (Ok answer) (part_of es fs ps (i + 1))) s.view (
+        none,
+        rw is (record {
+          replied = replied;
+          moved = ap (λ h. record { hall = h; next = i + 1 }) moved;
+          silent = silent;
+          counted = now_registered ∙ counted ∙ sym (registered_is s.es s.fs s.ps s.next s.kept.hall);
+        }),
+      ),
+    )
 
   -- it is refused for its cause, or for want of memory
   pub refuses : (a : Action) (stop : Stop) → cause_in (hall_seen s.es s.fs s.ps) a ≡ Some stop → stop ≢ NoMemory → Refuses (cause_in old.hall a) (IsFree a) stop

@@ -285,7 +285,7 @@ impl SharePart {
         Ok(Answer::Made)
     }
 
-    // Takes a permit for a key, where one is free and nobody waits. Room for the permit is made first.
+    // Takes a permit for a key, where one is free and nobody waits. Room for the permit is made before it is taken.
     fn try_acquire(&mut self, number: u64, o: u64, k: u64, form: Form) -> Result<Answer, Stop>
         requires { self.old.next ≤ number }
         ensures { ActsQuietly self.old number (Try o k (is_plain form)) result self.new }
@@ -297,28 +297,23 @@ impl SharePart {
         if !entry.is_named() {
             return Err(Stop::Unknown);
         }
+        if entry.core().available_permits() == 0 {
+            self.next = number as u128 + 1;
+            return Ok(Answer::Lacking);
+        }
         let Ok((key, permit)) = PermitEntry::new(self.alloc, o, k, plain) else {
             return Err(Stop::NoMemory);
         };
         let Ok(()) = self.permits.insert(number, permit) else {
             return Err(Stop::NoMemory);
         };
-        match entry.take(&key) {
-            Ok(true) => {
-                entry.begin(plain);
-                self.next = number as u128 + 1;
-                Ok(Answer::Held)
-            }
-            Ok(false) => {
-                let _ = self.permits.remove(number);
-                self.next = number as u128 + 1;
-                Ok(Answer::Lacking)
-            }
-            Err(_) => {
-                let _ = self.permits.remove(number);
-                Err(Stop::NoMemory)
-            }
-        }
+        let Ok(_) = entry.take(&key) else {
+            let _ = self.permits.remove(number);
+            return Err(Stop::NoMemory);
+        };
+        entry.begin(plain);
+        self.next = number as u128 + 1;
+        Ok(Answer::Held)
     }
 
     // Polls a future. Room for the permit is made first.

@@ -3,6 +3,7 @@ use Rattle.mea_base.proofs.Maps.{get-there, is_there}
 use Rattle.mea_family.specs.Causes.{unknown_unless}
 use Rattle.mea_family.specs.Forms.{is_plain}
 use Rattle.mea_share_model.specs.Actions.{Try}
+use Rattle.mea_share_core.specs.Fair.{Fair}
 use Rattle.mea_share.specs.Kept.{KeptAdmission}
 use Rattle.mea_share.proofs.Sites.{site, nameless, unknown, lacks_memory}
 use Rattle.mea_share.proofs.Events.{unchanged, few_things, use_cause, holds_one, lacks, not_tried}
@@ -29,36 +30,28 @@ invariant_of-self-in_default-insert c = rw c.in_default-insert.ensures.err (unch
 pub returns-in_default-insert : goal.returns-in_default-insert
 returns-in_default-insert c = rw c.in_default-insert.ensures.err (lacks_memory (site c.self.inside.admissions c.self.inside.futures c.self.inside.permits c.self.inside.next c.self.view_is c.self.invariant c.requires c.ranges.number.fits) (Try c.args.o c.args.k (is_plain c.args.form)) (use_cause (site c.self.inside.admissions c.self.inside.futures c.self.inside.permits c.self.inside.next c.self.view_is c.self.invariant c.requires c.ranges.number.fits) c.args.o c.in-Some.entry.now (sym c.in-Some.ensures.value) true (sym c.is_named.ensures ∙ c.if-not-is_named.false)) (λ no. no), (unchanged (site c.self.inside.admissions c.self.inside.futures c.self.inside.permits c.self.inside.next c.self.view_is c.self.invariant c.requires c.ranges.number.fits) c.args.o c.in-Some.entry.now (sym c.in-Some.ensures.value) c.in-Some.entry.now refl).1)
 
-pub begin-requires-clause-plain : goal.begin-requires-clause-plain
-begin-requires-clause-plain c =
-    let takes = c.in-Ok-true.ensures.took in
-    let same = ap (λ (d : KeptAdmission). d.plain) takes.rest in
-    omega (arith, same, (few_things (site c.self.inside.admissions c.self.inside.futures c.self.inside.permits c.self.inside.next c.self.view_is c.self.invariant c.requires c.ranges.number.fits) c.args.o c.in-Some.entry.now (sym c.in-Some.ensures.value)).1)
+pub invariant_of-self-then-available_permits-eq0 : goal.invariant_of-self-then-available_permits-eq0
+invariant_of-self-then-available_permits-eq0 c = (lacks (site c.self.inside.admissions c.self.inside.futures c.self.inside.permits c.self.inside.next c.self.view_is c.self.invariant c.requires c.ranges.number.fits) c.args.o c.in-Some.entry.now (sym c.in-Some.ensures.value) (is_plain c.args.form) c.args.k (use_cause (site c.self.inside.admissions c.self.inside.futures c.self.inside.permits c.self.inside.next c.self.view_is c.self.invariant c.requires c.ranges.number.fits) c.args.o c.in-Some.entry.now (sym c.in-Some.ensures.value) true (sym c.is_named.ensures ∙ c.if-not-is_named.false)) (sym (c.available_permits.ensures.is ∙ (ap (λ (f : Fair _ _). f.free) c.core.ensures)) ∙ c.if-available_permits-eq0.true)).0
 
-pub invariant_of-self-in-Ok-true : goal.invariant_of-self-in-Ok-true
-invariant_of-self-in-Ok-true c = let takes = rw (c.in-Ok-true.field-0-test, c.in-Ok.ensures.0) at c.in-Ok-true.ensures.took in
-    rw (c.begin.ensures, c.in-Ok-insert.ensures.ok, c.in-Ok.ensures.1) (holds_one (site c.self.inside.admissions c.self.inside.futures c.self.inside.permits c.self.inside.next c.self.view_is c.self.invariant c.requires c.ranges.number.fits) c.args.o c.in-Some.entry.now (sym c.in-Some.ensures.value) c.is_plain-plain.result c.args.k c.take.new.self (use_cause (site c.self.inside.admissions c.self.inside.futures c.self.inside.permits c.self.inside.next c.self.view_is c.self.invariant c.requires c.ranges.number.fits) c.args.o c.in-Some.entry.now (sym c.in-Some.ensures.value) true (sym c.is_named.ensures ∙ c.if-not-is_named.false)) takes).0
-
-pub returns-in-Ok-true : goal.returns-in-Ok-true
-returns-in-Ok-true c = let takes = rw (c.in-Ok-true.field-0-test, c.in-Ok.ensures.0) at c.in-Ok-true.ensures.took in
-    rw (← c.is_plain-plain.ensures, c.begin.ensures, c.in-Ok-insert.ensures.ok, c.in-Ok.ensures.1) (holds_one (site c.self.inside.admissions c.self.inside.futures c.self.inside.permits c.self.inside.next c.self.view_is c.self.invariant c.requires c.ranges.number.fits) c.args.o c.in-Some.entry.now (sym c.in-Some.ensures.value) c.is_plain-plain.result c.args.k c.take.new.self (use_cause (site c.self.inside.admissions c.self.inside.futures c.self.inside.permits c.self.inside.next c.self.view_is c.self.invariant c.requires c.ranges.number.fits) c.args.o c.in-Some.entry.now (sym c.in-Some.ensures.value) true (sym c.is_named.ensures ∙ c.if-not-is_named.false)) takes).1
+pub returns-then-available_permits-eq0 : goal.returns-then-available_permits-eq0
+returns-then-available_permits-eq0 c = (lacks (site c.self.inside.admissions c.self.inside.futures c.self.inside.permits c.self.inside.next c.self.view_is c.self.invariant c.requires c.ranges.number.fits) c.args.o c.in-Some.entry.now (sym c.in-Some.ensures.value) (is_plain c.args.form) c.args.k (use_cause (site c.self.inside.admissions c.self.inside.futures c.self.inside.permits c.self.inside.next c.self.view_is c.self.invariant c.requires c.ranges.number.fits) c.args.o c.in-Some.entry.now (sym c.in-Some.ensures.value) true (sym c.is_named.ensures ∙ c.if-not-is_named.false)) (sym (c.available_permits.ensures.is ∙ (ap (λ (f : Fair _ _). f.free) c.core.ensures)) ∙ c.if-available_permits-eq0.true)).1
 
 pub remove-requires : goal.remove-requires
 remove-requires c = rw c.in-Ok-insert.ensures.ok (is_there _ _ (get-there c.self.inside.permits c.args.number _))
 
-pub invariant_of-self-in-Ok-false : goal.invariant_of-self-in-Ok-false
-invariant_of-self-in-Ok-false c = let takes = rw (c.in-Ok-false.field-0-test, c.in-Ok.ensures.0) at c.in-Ok-false.ensures.took in
-    rw (c.remove.ensures.rest, c.in-Ok-insert.ensures.ok) (lacks (site c.self.inside.admissions c.self.inside.futures c.self.inside.permits c.self.inside.next c.self.view_is c.self.invariant c.requires c.ranges.number.fits) c.args.o c.in-Some.entry.now (sym c.in-Some.ensures.value) c.is_plain-plain.result c.args.k c.take.new.self _ (use_cause (site c.self.inside.admissions c.self.inside.futures c.self.inside.permits c.self.inside.next c.self.view_is c.self.invariant c.requires c.ranges.number.fits) c.args.o c.in-Some.entry.now (sym c.in-Some.ensures.value) true (sym c.is_named.ensures ∙ c.if-not-is_named.false)) takes).0
+pub invariant_of-self-in_default-take : goal.invariant_of-self-in_default-take
+invariant_of-self-in_default-take c = rw (c.remove.ensures.rest, c.in-Ok-insert.ensures.ok) (not_tried (site c.self.inside.admissions c.self.inside.futures c.self.inside.permits c.self.inside.next c.self.view_is c.self.invariant c.requires c.ranges.number.fits) c.args.o c.in-Some.entry.now (sym c.in-Some.ensures.value) c.take.new.self _ c.in_default-take.ensures.err).0
 
-pub returns-in-Ok-false : goal.returns-in-Ok-false
-returns-in-Ok-false c = let takes = rw (c.in-Ok-false.field-0-test, c.in-Ok.ensures.0) at c.in-Ok-false.ensures.took in
-    rw (← c.is_plain-plain.ensures, c.remove.ensures.rest, c.in-Ok-insert.ensures.ok) (lacks (site c.self.inside.admissions c.self.inside.futures c.self.inside.permits c.self.inside.next c.self.view_is c.self.invariant c.requires c.ranges.number.fits) c.args.o c.in-Some.entry.now (sym c.in-Some.ensures.value) c.is_plain-plain.result c.args.k c.take.new.self _ (use_cause (site c.self.inside.admissions c.self.inside.futures c.self.inside.permits c.self.inside.next c.self.view_is c.self.invariant c.requires c.ranges.number.fits) c.args.o c.in-Some.entry.now (sym c.in-Some.ensures.value) true (sym c.is_named.ensures ∙ c.if-not-is_named.false)) takes).1
+pub returns-in_default-take : goal.returns-in_default-take
+returns-in_default-take c = rw (c.remove.ensures.rest, c.in-Ok-insert.ensures.ok) (lacks_memory (site c.self.inside.admissions c.self.inside.futures c.self.inside.permits c.self.inside.next c.self.view_is c.self.invariant c.requires c.ranges.number.fits) (Try c.args.o c.args.k (is_plain c.args.form)) (use_cause (site c.self.inside.admissions c.self.inside.futures c.self.inside.permits c.self.inside.next c.self.view_is c.self.invariant c.requires c.ranges.number.fits) c.args.o c.in-Some.entry.now (sym c.in-Some.ensures.value) true (sym c.is_named.ensures ∙ c.if-not-is_named.false)) (λ no. no), (not_tried (site c.self.inside.admissions c.self.inside.futures c.self.inside.permits c.self.inside.next c.self.view_is c.self.invariant c.requires c.ranges.number.fits) c.args.o c.in-Some.entry.now (sym c.in-Some.ensures.value) c.take.new.self _ c.in_default-take.ensures.err).1)
 
-pub remove-requires-in-Err : goal.remove-requires-in-Err
-remove-requires-in-Err c = rw c.in-Ok-insert.ensures.ok (is_there _ _ (get-there c.self.inside.permits c.args.number _))
+pub begin-requires-clause-plain : goal.begin-requires-clause-plain
+begin-requires-clause-plain c =
+    let same = ap (λ (d : KeptAdmission). d.plain) c.in-Ok-take.ensures.took.rest in
+    omega (arith, same, (few_things (site c.self.inside.admissions c.self.inside.futures c.self.inside.permits c.self.inside.next c.self.view_is c.self.invariant c.requires c.ranges.number.fits) c.args.o c.in-Some.entry.now (sym c.in-Some.ensures.value)).1)
 
-pub invariant_of-self-in-Err : goal.invariant_of-self-in-Err
-invariant_of-self-in-Err c = rw (c.remove-in-Err.ensures.rest, c.in-Ok-insert.ensures.ok) (not_tried (site c.self.inside.admissions c.self.inside.futures c.self.inside.permits c.self.inside.next c.self.view_is c.self.invariant c.requires c.ranges.number.fits) c.args.o c.in-Some.entry.now (sym c.in-Some.ensures.value) c.take.new.self _ c.in-Err.ensures.err).0
+pub invariant_of-self-2 : goal.invariant_of-self-2
+invariant_of-self-2 c = rw (c.begin.ensures, c.in-Ok-insert.ensures.ok, c.in-Ok.ensures.1) (holds_one (site c.self.inside.admissions c.self.inside.futures c.self.inside.permits c.self.inside.next c.self.view_is c.self.invariant c.requires c.ranges.number.fits) c.args.o c.in-Some.entry.now (sym c.in-Some.ensures.value) c.is_plain-plain.result _ c.args.k c.take.new.self (use_cause (site c.self.inside.admissions c.self.inside.futures c.self.inside.permits c.self.inside.next c.self.view_is c.self.invariant c.requires c.ranges.number.fits) c.args.o c.in-Some.entry.now (sym c.in-Some.ensures.value) true (sym c.is_named.ensures ∙ c.if-not-is_named.false)) (λ none. c.if-available_permits-eq0.false (c.available_permits.ensures.is ∙ (ap (λ (f : Fair _ _). f.free) c.core.ensures) ∙ none)) (rw c.in-Ok.ensures.0 at c.in-Ok-take.ensures.took)).0
 
 pub returns : goal.returns
-returns c = rw (c.remove-in-Err.ensures.rest, c.in-Ok-insert.ensures.ok) (lacks_memory (site c.self.inside.admissions c.self.inside.futures c.self.inside.permits c.self.inside.next c.self.view_is c.self.invariant c.requires c.ranges.number.fits) (Try c.args.o c.args.k (is_plain c.args.form)) (use_cause (site c.self.inside.admissions c.self.inside.futures c.self.inside.permits c.self.inside.next c.self.view_is c.self.invariant c.requires c.ranges.number.fits) c.args.o c.in-Some.entry.now (sym c.in-Some.ensures.value) true (sym c.is_named.ensures ∙ c.if-not-is_named.false)) (λ no. no), (not_tried (site c.self.inside.admissions c.self.inside.futures c.self.inside.permits c.self.inside.next c.self.view_is c.self.invariant c.requires c.ranges.number.fits) c.args.o c.in-Some.entry.now (sym c.in-Some.ensures.value) c.take.new.self _ c.in-Err.ensures.err).1)
+returns c = rw (← c.is_plain-plain.ensures, c.begin.ensures, c.in-Ok-insert.ensures.ok, c.in-Ok.ensures.1) (holds_one (site c.self.inside.admissions c.self.inside.futures c.self.inside.permits c.self.inside.next c.self.view_is c.self.invariant c.requires c.ranges.number.fits) c.args.o c.in-Some.entry.now (sym c.in-Some.ensures.value) c.is_plain-plain.result _ c.args.k c.take.new.self (use_cause (site c.self.inside.admissions c.self.inside.futures c.self.inside.permits c.self.inside.next c.self.view_is c.self.invariant c.requires c.ranges.number.fits) c.args.o c.in-Some.entry.now (sym c.in-Some.ensures.value) true (sym c.is_named.ensures ∙ c.if-not-is_named.false)) (λ none. c.if-available_permits-eq0.false (c.available_permits.ensures.is ∙ (ap (λ (f : Fair _ _). f.free) c.core.ensures) ∙ none)) (rw c.in-Ok.ensures.0 at c.in-Ok-take.ensures.took)).1
