@@ -157,17 +157,13 @@ module _ {old : Part ShareHall} {i : ℕ} (s : Site old i) where
         refl
         (omega (arith, put_waiters (begun e' plain), becomes.shares.waiting))
 
-    -- the permit that was put first is gone again
-    permit_undone : (p : SharePermit) → remove (insert s.ps i p) i ≡ s.ps
-    permit_undone p = put_gone s.ps i p ∙ gone_none s.ps i (halls.no_second of_future of_permit AreKept size_of s.es s.fs s.ps s.next i s.kept.hall s.later s.fits)
-
     -- none is free
     pub lacks : (plain : Bool) (k : ℕ) → cause_in (hall_seen s.es s.fs s.ps) (Try o k plain) ≡ None → e.fair.free ≡ 0 → Did s (Try o k plain) answers.Lacking (insert s.es o e) s.fs s.ps
     lacks plain k none nothing = rw (same_put e refl) (rests_as s (Try o k plain) (quietly (hall_seen s.es s.fs s.ps) answers.Lacking) answers.Lacking s.es s.fs s.ps none
         (step_is (model.try (hall_seen s.es s.fs s.ps) i o k plain) ∙ if_true (e.fair.free == 0) _ _ (eq-eqb e.fair.free 0 nothing)) (stays s) refl refl refl refl)
 
-    pub not_tried : (e' : KeptAdmission) (p : SharePermit) → e' ≡ e → AreKeptAdmissions (insert s.es o e') s.fs (remove (insert s.ps i p) i) s.next × (◌≡◌ {A = Part ShareHall} (part_of (insert s.es o e') s.fs (remove (insert s.ps i p) i) s.next) old)
-    not_tried e' p is = rw (same_put e' is, permit_undone p) (s.kept, s.view)
+    pub not_tried : (e' : KeptAdmission) → e' ≡ e → AreKeptAdmissions (insert s.es o e') s.fs s.ps s.next × (◌≡◌ {A = Part ShareHall} (part_of (insert s.es o e') s.fs s.ps s.next) old)
+    not_tried e' is = rw (same_put e' is) (s.kept, s.view)
 
     -- ---- the end of its name
     pub tidies : (e' : KeptAdmission) (fs : Names KeptFuture) (ps : Names SharePermit) → Moves of_future o i s.fs fs → Moves of_permit o i s.ps ps → AreGood e' (own of_future o fs) (own of_permit o ps) → Owned e' (own of_future o fs) (own of_permit o ps) → size_of e' ≤ size_of e + 1
@@ -491,7 +487,7 @@ module _ {old : Part ShareHall} {i : ℕ} (s : Site old i) where
       pends : (e' : KeptAdmission) (y : KeptFuture) (w : ℕ) (o' : Outcome ShareHall) (more : ℕ) (before after : Waking ℕ) → IsSettled e'.fair → e' ≡ record e { fair = e'.fair } → Tallies e'.fair.shares → e'.fair.wakes ≡ []
           → e'.fair.next ≤ e.fair.next + 1 → y ≡ record x { stage = y.stage } → y.stage ≢ Done → act_in (hall_seen s.es s.fs s.ps) i (actions.Poll f w) ≡ o' → o'.reply ≡ answers.Pending → o'.wakes ≡ []
           → hall_seen (insert s.es o e') (insert s.fs f y) s.ps ≡ o'.hall → waiters e' ≡ waiters e + more → held_in e'.fair.shares ≡ held_in e.fair.shares → cond (is_queued y.stage) 1 0 ≡ cond (is_queued x.stage) 1 0 + more
-          → after ≡ record before { registered = before.registered + more } → DidWake s (actions.Poll f w) answers.Pending (insert s.es o e') (insert s.fs f y) (remove (insert s.ps i permit) i) before after
+          → after ≡ record before { registered = before.registered + more } → DidWake s (actions.Poll f w) answers.Pending (insert s.es o e') (insert s.fs f y) s.ps before after
       pends e' y w o' more before after settled rest tallies quiet number future lasts does reply silent moved waits holds queued counted =
           let things = ap (λ (d : KeptAdmission). d.things) rest in
           let plain = ap (λ (d : KeptAdmission). d.plain) rest in
@@ -501,7 +497,7 @@ module _ {old : Part ShareHall} {i : ℕ} (s : Site old i) where
           let plains = count-over (own of_future o s.fs) f (λ (z : KeptFuture). z.plain) y x own_future alike in
           let puts = count-put (own of_future o s.fs) f (λ (z : KeptFuture). is_queued z.stage) y in
           let had : weight (λ k (z : KeptFuture). cond (is_queued z.stage) 1 0) f (get (own of_future o s.fs) f) ≡ cond (is_queued x.stage) 1 0 = ap (weight (λ k (z : KeptFuture). cond (is_queued z.stage) 1 0) f) own_future in
-          rw (permit_undone permit) (yields_as s (actions.Poll f w) o' answers.Pending (insert s.es o e') (insert s.fs f y) s.ps (may_poll s f w x is) does
+          (yields_as s (actions.Poll f w) o' answers.Pending (insert s.es o e') (insert s.fs f y) s.ps (may_poll s f w x is) does
           (turn e' (insert s.fs f y) s.ps (Comes f y (let low = (s.kept.hall.firsts.at f x is).0 in omega (arith, low, s.later)) mine_too was_of) Stays
           (rw (own-put of_future o s.fs f y mine_too) (record {
             quiet = quiet;
@@ -569,7 +565,7 @@ module _ {old : Part ShareHall} {i : ℕ} (s : Site old i) where
 
       -- it begins to wait
       begins_to_wait : (e' : KeptAdmission) (y : KeptFuture) (w : ℕ) (before after : Waking ℕ) → PollsEntry e x w Pending e' y before after → x.stage ≡ New → e.fair.free ≡ 0 → y.stage ≡ Queued e.fair.next
-          → Becomes nat_eq e.fair e'.fair x.key (queued (share_of nat_eq e.fair x.key) e.fair.next w) 0 (e.fair.next + 1) → DidWake s (actions.Poll f w) answers.Pending (insert s.es o e') (insert s.fs f y) (remove (insert s.ps i permit) i) before after
+          → Becomes nat_eq e.fair e'.fair x.key (queued (share_of nat_eq e.fair x.key) e.fair.next w) 0 (e.fair.next + 1) → DidWake s (actions.Poll f w) answers.Pending (insert s.es o e') (insert s.fs f y) s.ps before after
       begins_to_wait e' y w before after did stage none now becomes =
           let h = hall_seen s.es s.fs s.ps in
           let t = share_of nat_eq e.fair x.key in
@@ -591,7 +587,7 @@ module _ {old : Part ShareHall} {i : ℕ} (s : Site old i) where
 
       -- it waits on
       waits_again : (e' : KeptAdmission) (y : KeptFuture) (w n : ℕ) (before after : Waking ℕ) → PollsEntry e x w Pending e' y before after → x.stage ≡ Queued n → IsWaiting (share_of nat_eq e.fair x.key) n → y.stage ≡ Queued n
-          → Becomes nat_eq e.fair e'.fair x.key (queued (share_of nat_eq e.fair x.key) n w) e.fair.free e.fair.next → DidWake s (actions.Poll f w) answers.Pending (insert s.es o e') (insert s.fs f y) (remove (insert s.ps i permit) i) before after
+          → Becomes nat_eq e.fair e'.fair x.key (queued (share_of nat_eq e.fair x.key) n w) e.fair.free e.fair.next → DidWake s (actions.Poll f w) answers.Pending (insert s.es o e') (insert s.fs f y) s.ps before after
       waits_again e' y w n before after did stage waits now becomes =
           let h = hall_seen s.es s.fs s.ps in
           let t = share_of nat_eq e.fair x.key in
@@ -612,17 +608,17 @@ module _ {old : Part ShareHall} {i : ℕ} (s : Site old i) where
           (omega (arith, becomes.shares.waiting, as_many)) (omega (arith, becomes.shares.held)) (let a : ◌≡◌ {A = ℕ} (cond (is_queued y.stage) 1 0) (cond (is_queued x.stage) 1 0) = ap (λ (z : KeptFuture). cond (is_queued z.stage) 1 0) same in omega (arith, a))
           (did.counted ∙ ap (λ z. record before { registered = before.registered + cond (is_queued z) 0 1 }) stage)
 
-      pub pended : (e' : KeptAdmission) (y : KeptFuture) (w : ℕ) (before after : Waking ℕ) → PollsEntry e x w Pending e' y before after → DidWake s (actions.Poll f w) answers.Pending (insert s.es o e') (insert s.fs f y) (remove (insert s.ps i permit) i) before after
+      pub pended : (e' : KeptAdmission) (y : KeptFuture) (w : ℕ) (before after : Waking ℕ) → PollsEntry e x w Pending e' y before after → DidWake s (actions.Poll f w) answers.Pending (insert s.es o e') (insert s.fs f y) s.ps before after
       pended e' y w before after did = by_stage x.stage refl did.polls
         where
-          by_stage : (t : ShareStage) → x.stage ≡ t → Polls nat_eq e.fair x.key t w Pending e'.fair y.stage → DidWake s (actions.Poll f w) answers.Pending (insert s.es o e') (insert s.fs f y) (remove (insert s.ps i permit) i) before after
-          by_stage New stage polls = elim (cases_lt 0 e.fair.free) as (λ _. DidWake s (actions.Poll f w) answers.Pending (insert s.es o e') (insert s.fs f y) (remove (insert s.ps i permit) i) before after) [
+          by_stage : (t : ShareStage) → x.stage ≡ t → Polls nat_eq e.fair x.key t w Pending e'.fair y.stage → DidWake s (actions.Poll f w) answers.Pending (insert s.es o e') (insert s.fs f y) s.ps before after
+          by_stage New stage polls = elim (cases_lt 0 e.fair.free) as (λ _. DidWake s (actions.Poll f w) answers.Pending (insert s.es o e') (insert s.fs f y) s.ps before after) [
             | inl some ↦ no_pending tt (polls.0 some).0
             | inr none ↦ let zero : e.fair.free ≡ 0 = omega (arith, none) in let all = polls.1 zero in begins_to_wait e' y w before after did stage zero all.1 all.2
           ]
           by_stage (Queued n) stage polls = by_has (has_number n stage)
             where
-              by_has : HasNumber (share_of nat_eq e.fair x.key) n → DidWake s (actions.Poll f w) answers.Pending (insert s.es o e') (insert s.fs f y) (remove (insert s.ps i permit) i) before after
+              by_has : HasNumber (share_of nat_eq e.fair x.key) n → DidWake s (actions.Poll f w) answers.Pending (insert s.es o e') (insert s.fs f y) s.ps before after
               by_has (inl waits) = let all = polls.0 waits in waits_again e' y w n before after did stage waits all.1 all.2
               by_has (inr was) = no_pending tt (polls.1 was).0
           by_stage Done stage polls = absurd (not_done stage)
@@ -677,8 +673,8 @@ module _ {old : Part ShareHall} {i : ℕ} (s : Site old i) where
           by_stage Done stage polls = absurd (not_done stage)
 
       -- nothing that is seen has changed
-      pub failed : (e' : KeptAdmission) (y : KeptFuture) → e' ≡ record e { fair = e'.fair } → IsSame nat_eq e.fair e'.fair → y ≡ x → AreKeptAdmissions (insert s.es o e') (insert s.fs f y) (remove (insert s.ps i permit) i) s.next
-          × (◌≡◌ {A = Part ShareHall} (part_of (insert s.es o e') (insert s.fs f y) (remove (insert s.ps i permit) i) s.next) old)
+      pub failed : (e' : KeptAdmission) (y : KeptFuture) → e' ≡ record e { fair = e'.fair } → IsSame nat_eq e.fair e'.fair → y ≡ x → AreKeptAdmissions (insert s.es o e') (insert s.fs f y) s.ps s.next
+          × (◌≡◌ {A = Part ShareHall} (part_of (insert s.es o e') (insert s.fs f y) s.ps s.next) old)
       failed e' y rest same alike =
           let futures : insert s.fs f y ≡ s.fs = insert_same s.fs f y (is ∙ ap (λ z. Some z) (sym alike)) in
           let named = ap (λ (d : KeptAdmission). d.named) rest in
@@ -689,7 +685,7 @@ module _ {old : Part ShareHall} {i : ℕ} (s : Site old i) where
           let keep : (q : ℕ) → IsSome (get s.es q) → IsSome (get (insert s.es o e') q) = λ q some. by_put s.es o e' (λ q p. IsSome (get s.es q) → IsSome p) (λ some. refl) (λ q apart some. some) q some in
           let kept = s.kept.hall in
           let size = same.next in
-          rw (futures, permit_undone permit) (
+          rw futures (
             record {
               hall = record {
                 each = by_put s.es o e' (λ q p. (d : KeptAdmission) → p ≡ Some d → AreKept d (own of_future q s.fs) (own of_permit q s.ps))

@@ -17,7 +17,7 @@ use crate::admission_entry::{AdmissionEntry, Core};
 use crate::future_entry::FutureEntry;
 use crate::permit_entry::PermitEntry;
 use mea_base::{Poll, Ready};
-use mea_by_name::ByName;
+use mea_by_name::{ByName, Roomy};
 use mea_family::{Answer, Form, Stop, borrowed_if, unknown_unless, zero_if};
 use mea_share_core::SharedKey;
 use std::alloc::Global;
@@ -31,7 +31,7 @@ use std::marker::Model;
 pub struct SharePart {
     admissions: ByName<AdmissionEntry>,
     futures: ByName<FutureEntry>,
-    permits: ByName<PermitEntry>,
+    permits: Roomy<PermitEntry>,
     next: u128,
     alloc: Global,
 }
@@ -46,9 +46,9 @@ impl Model for SharePart {
 
     ghost use Rattle.mea_share.specs.Kept.{hall_seen, AreKeptAdmissions};
 
-    ghost view = { λ a. record { hall = hall_seen a.admissions a.futures a.permits; next = a.next } };
+    ghost view = { λ a. record { hall = hall_seen a.admissions a.futures a.permits.things; next = a.next } };
 
-    ghost invariant = { λ a. AreKeptAdmissions a.admissions a.futures a.permits a.next };
+    ghost invariant = { λ a. AreKeptAdmissions a.admissions a.futures a.permits.things a.next };
 }
 
 impl SharePart {
@@ -59,7 +59,7 @@ impl SharePart {
         SharePart {
             admissions: ByName::new(alloc),
             futures: ByName::new(alloc),
-            permits: ByName::new(alloc),
+            permits: Roomy::new(alloc),
             next: 0,
             alloc,
         }
@@ -304,13 +304,13 @@ impl SharePart {
         let Ok((key, permit)) = PermitEntry::new(self.alloc, o, k, plain) else {
             return Err(Stop::NoMemory);
         };
-        let Ok(()) = self.permits.insert(number, permit) else {
+        let Ok(()) = self.permits.reserve(1) else {
             return Err(Stop::NoMemory);
         };
         let Ok(_) = entry.take(&key) else {
-            let _ = self.permits.remove(number);
             return Err(Stop::NoMemory);
         };
+        self.permits.insert(number, permit);
         entry.begin(plain);
         self.next = number as u128 + 1;
         Ok(Answer::Held)
@@ -334,20 +334,17 @@ impl SharePart {
             return Err(Stop::NoMemory);
         };
         let entry = self.admissions.at_mut(future.admission());
-        let Ok(()) = self.permits.insert(number, permit) else {
+        let Ok(()) = self.permits.reserve(1) else {
             return Err(Stop::NoMemory);
         };
         match entry.poll(future, waker, ready) {
-            Err(_) => {
-                let _ = self.permits.remove(number);
-                Err(Stop::NoMemory)
-            }
+            Err(_) => Err(Stop::NoMemory),
             Ok(Poll::Pending) => {
-                let _ = self.permits.remove(number);
                 self.next = number as u128 + 1;
                 Ok(Answer::Pending)
             }
             Ok(Poll::Ready(())) => {
+                self.permits.insert(number, permit);
                 let _ = self.futures.remove(f);
                 self.next = number as u128 + 1;
                 Ok(Answer::Ready)

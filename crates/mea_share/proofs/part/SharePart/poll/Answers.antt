@@ -8,50 +8,44 @@ use Rattle.mea_share.proofs.Events.{belongs, pended, readied_now, failed}
 use Rattle.mea_share.proofs.part.SharePart.poll.Goals as goal
 
 pub returns-in_default : goal.returns-in_default
-returns-in_default c = (unknown (site c.self.inside.admissions c.self.inside.futures c.self.inside.permits c.self.inside.next c.self.view_is c.self.invariant c.requires c.ranges.number.fits) (Poll c.args.f c.args.waker) (ap unknown_unless (no_future (site c.self.inside.admissions c.self.inside.futures c.self.inside.permits c.self.inside.next c.self.view_is c.self.invariant c.requires c.ranges.number.fits) c.args.f (sym c.in_default.ensures.value))), search rules, refl)
+returns-in_default c = (unknown (site c.self.inside.admissions c.self.inside.futures c.self.inside.permits.things c.self.inside.next c.self.view_is c.self.invariant c.requires c.ranges.number.fits) (Poll c.args.f c.args.waker) (ap unknown_unless (no_future (site c.self.inside.admissions c.self.inside.futures c.self.inside.permits.things c.self.inside.next c.self.view_is c.self.invariant c.requires c.ranges.number.fits) c.args.f (sym c.in_default.ensures.value))), search rules, refl)
 
 pub invariant_of-self-in_default-permit : goal.invariant_of-self-in_default-permit
-invariant_of-self-in_default-permit c = (same_future (site c.self.inside.admissions c.self.inside.futures c.self.inside.permits c.self.inside.next c.self.view_is c.self.invariant c.requires c.ranges.number.fits) c.args.f c.in-Some.future.now (sym c.in-Some.ensures.value)).0
+invariant_of-self-in_default-permit c = (same_future (site c.self.inside.admissions c.self.inside.futures c.self.inside.permits.things c.self.inside.next c.self.view_is c.self.invariant c.requires c.ranges.number.fits) c.args.f c.in-Some.future.now (sym c.in-Some.ensures.value)).0
 
 pub returns-in_default-permit : goal.returns-in_default-permit
-returns-in_default-permit c = (lacks_memory (site c.self.inside.admissions c.self.inside.futures c.self.inside.permits c.self.inside.next c.self.view_is c.self.invariant c.requires c.ranges.number.fits) (Poll c.args.f c.args.waker) (may_poll (site c.self.inside.admissions c.self.inside.futures c.self.inside.permits c.self.inside.next c.self.view_is c.self.invariant c.requires c.ranges.number.fits) c.args.f c.args.waker c.in-Some.future.now (sym c.in-Some.ensures.value)) (λ no. no), (same_future (site c.self.inside.admissions c.self.inside.futures c.self.inside.permits c.self.inside.next c.self.view_is c.self.invariant c.requires c.ranges.number.fits) c.args.f c.in-Some.future.now (sym c.in-Some.ensures.value)).1, refl)
+returns-in_default-permit c = (lacks_memory (site c.self.inside.admissions c.self.inside.futures c.self.inside.permits.things c.self.inside.next c.self.view_is c.self.invariant c.requires c.ranges.number.fits) (Poll c.args.f c.args.waker) (may_poll (site c.self.inside.admissions c.self.inside.futures c.self.inside.permits.things c.self.inside.next c.self.view_is c.self.invariant c.requires c.ranges.number.fits) c.args.f c.args.waker c.in-Some.future.now (sym c.in-Some.ensures.value)) (λ no. no), (same_future (site c.self.inside.admissions c.self.inside.futures c.self.inside.permits.things c.self.inside.next c.self.view_is c.self.invariant c.requires c.ranges.number.fits) c.args.f c.in-Some.future.now (sym c.in-Some.ensures.value)).1, refl)
 
-pub invariant_of-self-in_default-insert : goal.invariant_of-self-in_default-insert
-invariant_of-self-in_default-insert c = rw c.in_default-insert.ensures.err (same_both (site c.self.inside.admissions c.self.inside.futures c.self.inside.permits c.self.inside.next c.self.view_is c.self.invariant c.requires c.ranges.number.fits) c.admission.result c.at_mut-entry.result.now c.args.f c.in-Some.future.now c.at_mut-entry.ensures.value (sym c.in-Some.ensures.value)).0
+pub invariant_of-self-in_default-reserve : goal.invariant_of-self-in_default-reserve
+invariant_of-self-in_default-reserve c = rw c.reserve.ensures.things (same_both (site c.self.inside.admissions c.self.inside.futures c.self.inside.permits.things c.self.inside.next c.self.view_is c.self.invariant c.requires c.ranges.number.fits) c.admission.result c.at_mut-entry.result.now c.args.f c.in-Some.future.now c.at_mut-entry.ensures.value (sym c.in-Some.ensures.value)).0
 
-pub returns-in_default-insert : goal.returns-in_default-insert
-returns-in_default-insert c = rw c.in_default-insert.ensures.err (lacks_memory (site c.self.inside.admissions c.self.inside.futures c.self.inside.permits c.self.inside.next c.self.view_is c.self.invariant c.requires c.ranges.number.fits) (Poll c.args.f c.args.waker) (may_poll (site c.self.inside.admissions c.self.inside.futures c.self.inside.permits c.self.inside.next c.self.view_is c.self.invariant c.requires c.ranges.number.fits) c.args.f c.args.waker c.in-Some.future.now (sym c.in-Some.ensures.value)) (λ no. no), (same_both (site c.self.inside.admissions c.self.inside.futures c.self.inside.permits c.self.inside.next c.self.view_is c.self.invariant c.requires c.ranges.number.fits) c.admission.result c.at_mut-entry.result.now c.args.f c.in-Some.future.now c.at_mut-entry.ensures.value (sym c.in-Some.ensures.value)).1, refl)
+pub returns-in_default-reserve : goal.returns-in_default-reserve
+returns-in_default-reserve c = rw c.reserve.ensures.things (lacks_memory (site c.self.inside.admissions c.self.inside.futures c.self.inside.permits.things c.self.inside.next c.self.view_is c.self.invariant c.requires c.ranges.number.fits) (Poll c.args.f c.args.waker) (may_poll (site c.self.inside.admissions c.self.inside.futures c.self.inside.permits.things c.self.inside.next c.self.view_is c.self.invariant c.requires c.ranges.number.fits) c.args.f c.args.waker c.in-Some.future.now (sym c.in-Some.ensures.value)) (λ no. no), (same_both (site c.self.inside.admissions c.self.inside.futures c.self.inside.permits.things c.self.inside.next c.self.view_is c.self.invariant c.requires c.ranges.number.fits) c.admission.result c.at_mut-entry.result.now c.args.f c.in-Some.future.now c.at_mut-entry.ensures.value (sym c.in-Some.ensures.value)).1, refl)
 
 pub poll-requires : goal.poll-requires
-poll-requires c = belongs (site c.self.inside.admissions c.self.inside.futures c.self.inside.permits c.self.inside.next c.self.view_is c.self.invariant c.requires c.ranges.number.fits) c.admission.result c.at_mut-entry.result.now c.at_mut-entry.ensures.value c.args.f c.in-Some.future.now (sym c.in-Some.ensures.value) (sym c.admission.ensures)
+poll-requires c = belongs (site c.self.inside.admissions c.self.inside.futures c.self.inside.permits.things c.self.inside.next c.self.view_is c.self.invariant c.requires c.ranges.number.fits) c.admission.result c.at_mut-entry.result.now c.at_mut-entry.ensures.value c.args.f c.in-Some.future.now (sym c.in-Some.ensures.value) (sym c.admission.ensures)
 
-pub remove-requires : goal.remove-requires
-remove-requires c = rw c.in-Ok-insert.ensures.ok (is_there _ _ (get-there c.self.inside.permits c.args.number _))
-
-pub invariant_of-self-in-Err : goal.invariant_of-self-in-Err
-invariant_of-self-in-Err c = rw (c.remove.ensures.rest, c.in-Ok-insert.ensures.ok, c.in-Ok.ensures) (failed (site c.self.inside.admissions c.self.inside.futures c.self.inside.permits c.self.inside.next c.self.view_is c.self.invariant c.requires c.ranges.number.fits) c.admission.result c.at_mut-entry.result.now c.at_mut-entry.ensures.value c.args.f c.in-Some.future.now (sym c.in-Some.ensures.value) (sym c.admission.ensures) c.poll.new.self c.poll.new.future c.in-Err.ensures.err.0 c.in-Err.ensures.same c.in-Err.ensures.err.1).0
+pub invariant_of-self-in-Err-poll : goal.invariant_of-self-in-Err-poll
+invariant_of-self-in-Err-poll c = rw c.reserve.ensures.things (failed (site c.self.inside.admissions c.self.inside.futures c.self.inside.permits.things c.self.inside.next c.self.view_is c.self.invariant c.requires c.ranges.number.fits) c.admission.result c.at_mut-entry.result.now c.at_mut-entry.ensures.value c.args.f c.in-Some.future.now (sym c.in-Some.ensures.value) (sym c.admission.ensures) c.poll.new.self c.poll.new.future c.in-Err.ensures.err.0 c.in-Err.ensures.same c.in-Err.ensures.err.1).0
 
 pub returns-in-Err : goal.returns-in-Err
-returns-in-Err c = (lacks_memory (site c.self.inside.admissions c.self.inside.futures c.self.inside.permits c.self.inside.next c.self.view_is c.self.invariant c.requires c.ranges.number.fits) (Poll c.args.f c.args.waker) (may_poll (site c.self.inside.admissions c.self.inside.futures c.self.inside.permits c.self.inside.next c.self.view_is c.self.invariant c.requires c.ranges.number.fits) c.args.f c.args.waker c.in-Some.future.now (sym c.in-Some.ensures.value)) (λ no. no), rw (c.remove.ensures.rest, c.in-Ok-insert.ensures.ok, c.in-Ok.ensures) (failed (site c.self.inside.admissions c.self.inside.futures c.self.inside.permits c.self.inside.next c.self.view_is c.self.invariant c.requires c.ranges.number.fits) c.admission.result c.at_mut-entry.result.now c.at_mut-entry.ensures.value c.args.f c.in-Some.future.now (sym c.in-Some.ensures.value) (sym c.admission.ensures) c.poll.new.self c.poll.new.future c.in-Err.ensures.err.0 c.in-Err.ensures.same c.in-Err.ensures.err.1).1, c.in-Err.ensures.err.2)
+returns-in-Err c = (lacks_memory (site c.self.inside.admissions c.self.inside.futures c.self.inside.permits.things c.self.inside.next c.self.view_is c.self.invariant c.requires c.ranges.number.fits) (Poll c.args.f c.args.waker) (may_poll (site c.self.inside.admissions c.self.inside.futures c.self.inside.permits.things c.self.inside.next c.self.view_is c.self.invariant c.requires c.ranges.number.fits) c.args.f c.args.waker c.in-Some.future.now (sym c.in-Some.ensures.value)) (λ no. no), rw c.reserve.ensures.things (failed (site c.self.inside.admissions c.self.inside.futures c.self.inside.permits.things c.self.inside.next c.self.view_is c.self.invariant c.requires c.ranges.number.fits) c.admission.result c.at_mut-entry.result.now c.at_mut-entry.ensures.value c.args.f c.in-Some.future.now (sym c.in-Some.ensures.value) (sym c.admission.ensures) c.poll.new.self c.poll.new.future c.in-Err.ensures.err.0 c.in-Err.ensures.same c.in-Err.ensures.err.1).1, c.in-Err.ensures.err.2)
 
-pub remove-requires-in-Ok-Pending : goal.remove-requires-in-Ok-Pending
-remove-requires-in-Ok-Pending c = rw c.in-Ok-insert.ensures.ok (is_there _ _ (get-there c.self.inside.permits c.args.number _))
-
-pub invariant_of-self-in-Ok-Pending : goal.invariant_of-self-in-Ok-Pending
-invariant_of-self-in-Ok-Pending c = let polled = rw c.in-Ok-Pending.field-0-is at c.in-Ok-Pending.ensures.polls in
-    rw (c.remove-in-Ok-Pending.ensures.rest, c.in-Ok-insert.ensures.ok, c.in-Ok.ensures) (pended (site c.self.inside.admissions c.self.inside.futures c.self.inside.permits c.self.inside.next c.self.view_is c.self.invariant c.requires c.ranges.number.fits) c.admission.result c.at_mut-entry.result.now c.at_mut-entry.ensures.value c.args.f c.in-Some.future.now (sym c.in-Some.ensures.value) (sym c.admission.ensures) c.poll.new.self c.poll.new.future c.args.waker c.args.ready.now c.poll.new.ready polled).0
+pub invariant_of-self-in-Pending-1 : goal.invariant_of-self-in-Pending-1
+invariant_of-self-in-Pending-1 c = let polled = rw c.in-Ok-Pending.field-0-is at c.in-Ok-Pending.ensures.polls in
+    rw c.reserve.ensures.things (pended (site c.self.inside.admissions c.self.inside.futures c.self.inside.permits.things c.self.inside.next c.self.view_is c.self.invariant c.requires c.ranges.number.fits) c.admission.result c.at_mut-entry.result.now c.at_mut-entry.ensures.value c.args.f c.in-Some.future.now (sym c.in-Some.ensures.value) (sym c.admission.ensures) c.poll.new.self c.poll.new.future c.args.waker c.args.ready.now c.poll.new.ready polled).0
 
 pub returns-in-Ok-Pending : goal.returns-in-Ok-Pending
 returns-in-Ok-Pending c = let polled = rw c.in-Ok-Pending.field-0-is at c.in-Ok-Pending.ensures.polls in
-    rw (c.remove-in-Ok-Pending.ensures.rest, c.in-Ok-insert.ensures.ok, c.in-Ok.ensures) (pended (site c.self.inside.admissions c.self.inside.futures c.self.inside.permits c.self.inside.next c.self.view_is c.self.invariant c.requires c.ranges.number.fits) c.admission.result c.at_mut-entry.result.now c.at_mut-entry.ensures.value c.args.f c.in-Some.future.now (sym c.in-Some.ensures.value) (sym c.admission.ensures) c.poll.new.self c.poll.new.future c.args.waker c.args.ready.now c.poll.new.ready polled).1
+    rw c.reserve.ensures.things (pended (site c.self.inside.admissions c.self.inside.futures c.self.inside.permits.things c.self.inside.next c.self.view_is c.self.invariant c.requires c.ranges.number.fits) c.admission.result c.at_mut-entry.result.now c.at_mut-entry.ensures.value c.args.f c.in-Some.future.now (sym c.in-Some.ensures.value) (sym c.admission.ensures) c.poll.new.self c.poll.new.future c.args.waker c.args.ready.now c.poll.new.ready polled).1
 
-pub remove-requires-in-Ok-Ready : goal.remove-requires-in-Ok-Ready
-remove-requires-in-Ok-Ready c = is_there _ _ (get-there c.self.inside.futures c.args.f _)
+pub remove-requires : goal.remove-requires
+remove-requires c = is_there _ _ (get-there c.self.inside.futures c.args.f _)
 
 pub invariant_of-self-in-Ok-Ready : goal.invariant_of-self-in-Ok-Ready
 invariant_of-self-in-Ok-Ready c = let polled = rw c.in-Ok-Ready.field-0-is at c.in-Ok-Ready.ensures.polls in
-    rw (c.remove-in-Ok-Ready.ensures.rest, c.in-Ok-insert.ensures.ok, c.in-Ok.ensures) (readied_now (site c.self.inside.admissions c.self.inside.futures c.self.inside.permits c.self.inside.next c.self.view_is c.self.invariant c.requires c.ranges.number.fits) c.admission.result c.at_mut-entry.result.now c.at_mut-entry.ensures.value c.args.f c.in-Some.future.now (sym c.in-Some.ensures.value) (sym c.admission.ensures) c.poll.new.self c.poll.new.future c.args.waker _ c.args.ready.now c.poll.new.ready polled).0
+    rw (c.remove.ensures.rest, c.insert.ensures.things, c.reserve.ensures.things, c.in-Ok.ensures) (readied_now (site c.self.inside.admissions c.self.inside.futures c.self.inside.permits.things c.self.inside.next c.self.view_is c.self.invariant c.requires c.ranges.number.fits) c.admission.result c.at_mut-entry.result.now c.at_mut-entry.ensures.value c.args.f c.in-Some.future.now (sym c.in-Some.ensures.value) (sym c.admission.ensures) c.poll.new.self c.poll.new.future c.args.waker _ c.args.ready.now c.poll.new.ready polled).0
 
 pub returns-in-Ok-Ready : goal.returns-in-Ok-Ready
 returns-in-Ok-Ready c = let polled = rw c.in-Ok-Ready.field-0-is at c.in-Ok-Ready.ensures.polls in
-    rw (c.remove-in-Ok-Ready.ensures.rest, c.in-Ok-insert.ensures.ok, c.in-Ok.ensures) (readied_now (site c.self.inside.admissions c.self.inside.futures c.self.inside.permits c.self.inside.next c.self.view_is c.self.invariant c.requires c.ranges.number.fits) c.admission.result c.at_mut-entry.result.now c.at_mut-entry.ensures.value c.args.f c.in-Some.future.now (sym c.in-Some.ensures.value) (sym c.admission.ensures) c.poll.new.self c.poll.new.future c.args.waker _ c.args.ready.now c.poll.new.ready polled).1
+    rw (c.remove.ensures.rest, c.insert.ensures.things, c.reserve.ensures.things, c.in-Ok.ensures) (readied_now (site c.self.inside.admissions c.self.inside.futures c.self.inside.permits.things c.self.inside.next c.self.view_is c.self.invariant c.requires c.ranges.number.fits) c.admission.result c.at_mut-entry.result.now c.at_mut-entry.ensures.value c.args.f c.in-Some.future.now (sym c.in-Some.ensures.value) (sym c.admission.ensures) c.poll.new.self c.poll.new.future c.args.waker _ c.args.ready.now c.poll.new.ready polled).1
