@@ -8,7 +8,7 @@ use Rattle.mea_base.proofs.Maps.{total-has, nothing_at, get-there, is_there}
 use Rattle.std.proofs.lemmas.Bool.{eq-eqb}
 use Rattle.mea_base.proofs.Totals.{get_removed}
 use Rattle.mea_base.proofs.NamedMaps.{get-seen, is_some-map}
-use Rattle.mea_by_name.specs.ByName.{Names, seen, own}
+use Rattle.mea_by_name.specs.ByName.{Names, seen}
 use Rattle.mea_family.specs.Play.{Part}
 use Rattle.mea_by_name.proofs.Own.{seen-at, seen-none, seen-back, seen-empty, insert_same, gone_none}
 use Rattle.mea_share_core.specs.Groups.{waiting_in}
@@ -19,7 +19,7 @@ use Rattle.mea_share_model.specs.Admissions.{Admission, SharePermit, ShareHall, 
 use Rattle.mea_share_model.specs.Actions.{Poll, End, cause_in}
 use Rattle.mea_share_model.specs.Valid.{AreValid}
 use Rattle.mea_share_model.proofs.Keeping.{valid_start}
-use Rattle.mea_share.specs.Kept.{KeptAdmission, KeptFuture, shares_seen, admission_seen, future_seen, hall_seen, AreGood, of_future, of_permit, AreKeptAdmissions}
+use Rattle.mea_share.specs.Kept.{KeptAdmission, KeptFuture, shares_seen, admission_seen, future_seen, hall_seen, AreKeptAdmissions}
 use Rattle.mea_share.specs.Lends.{StandsFor, AreSettled}
 use Rattle.mea_share.proofs.Sites.{Site, part_of, plain_is, registered_is, waiters}
 

@@ -1,5 +1,5 @@
 -- admissions before an event, and what holds after it as they are kept and as they are seen
-use Rattle.std.proofs.Common.{◌≡◌, ◌≢◌, ℕ, ◌+◌, ◌<◌, ◌≤◌, ◌^◌, ◌==◌, ◌++◌, inl, inr, true, false, cond, [], nat_eq, Option, Some, None, IsSome, is_some, Ok, refl, ap, sym, subst, ◌∙◌, arith, append-nil}
+use Rattle.std.proofs.Common.{◌≡◌, ◌≢◌, ℕ, ◌+◌, ◌<◌, ◌≤◌, ◌^◌, ◌==◌, ◌++◌, inl, inr, true, false, cond, [], nat_eq, Some, None, IsSome, is_some, Ok, refl, ap, sym, subst, ◌∙◌, arith}
 use Rattle.std.specs.Ordering.{nat_cmp}
 use Rattle.std.specs.Cmp.{nat_cmp_total}
 use Rattle.std.specs.FinMap.{get, insert, remove, len, empty, len-empty, len-insert}
@@ -17,7 +17,7 @@ use Rattle.mea_base.proofs.Maps.{nothing_at, inside, is_there, value_in, by_put,
 use Rattle.mea_base.proofs.Totals.{total-insert, total-same, total-empty}
 use Rattle.mea_by_name.specs.ByName.{Names, seen, own, count}
 use Rattle.mea_by_name.specs.HallKept.{HallKept}
-use Rattle.mea_family.specs.Play.{Part, PartYields, PartRests, found}
+use Rattle.mea_family.specs.Play.{Part, found}
 use Rattle.mea_by_name.proofs.Cases.{found_is, if_false}
 use Rattle.mea_by_name.proofs.Halls as halls
 use Rattle.mea_by_name.proofs.Own.{seen-none, seen-back, seen-insert, own-seen, total-seen, len-some, len-new, len-gone, count-new, count-gone}

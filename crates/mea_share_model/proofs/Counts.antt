@@ -1,7 +1,7 @@
 -- how many wakers are registered, after any event of any hall
 use Rattle.std.proofs.Common.{◌≡◌, ℕ, ◌+◌, ◌≤◌, Bool, true, false, cond, length, List, [], Option, Some, None, refl, ap, sym, subst, ◌∙◌, inl, inr, arith}
 use Rattle.std.specs.Cmp.{nat_cmp_total}
-use Rattle.std.specs.FinMap.{get, insert, remove, len, len-insert}
+use Rattle.std.specs.FinMap.{get, len, len-insert}
 use Rattle.mea_base.specs.Totals.{total, weight}
 use Rattle.mea_family.specs.Family.{Outcome}
 use Rattle.mea_base.proofs.Totals.{total-insert, total-remove, total-empty}

@@ -1,5 +1,5 @@
 -- who is admitted is next
-use Rattle.std.proofs.Common.{◌≡◌, ℕ, inl, inr, [], Option, Some, None, refl, ap, ◌∙◌}
+use Rattle.std.proofs.Common.{◌≡◌, ℕ, inl, inr, Option, Some, None, refl, ap, ◌∙◌}
 use Rattle.std.specs.FinMap.{get}
 use Rattle.mea_family.specs.declared.answer.Answer.TheVariants as answers
 use Rattle.mea_family.specs.Family.{Outcome}

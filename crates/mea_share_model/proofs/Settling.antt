@@ -1,7 +1,7 @@
 -- while anyone waits no permit is free, after any event
-use Rattle.std.proofs.Common.{◌≡◌, ℕ, ◌+◌, ◌-◌, ◌<◌, ◌≤◌, ◌==◌, inl, inr, Bool, true, false, cond, Option, Some, None, sym, subst, refl, arith}
+use Rattle.std.proofs.Common.{◌≡◌, ℕ, ◌+◌, ◌<◌, ◌≤◌, ◌==◌, inl, inr, Bool, true, false, cond, Option, Some, None, sym, subst, refl, arith}
 use Rattle.std.specs.Cmp.{nat_cmp_total}
-use Rattle.std.specs.FinMap.{get, insert, remove, len, len-remove}
+use Rattle.std.specs.FinMap.{get, insert, len, len-remove}
 use Rattle.std.proofs.lemmas.Bool.{eqb-true, eqb-false}
 use Rattle.mea_family.specs.Family.{Outcome, IsRun, RunOf, Starts, Goes}
 use Rattle.mea_base.proofs.Maps.{by_put, removed_there, nothing_at, inside, at-empty}
