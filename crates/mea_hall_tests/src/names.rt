@@ -24,7 +24,7 @@ fn names_at_even_steps_fill_a_table_evenly() {
 #[test]
 fn names_that_follow_each_other_lie_side_by_side() {
     let hasher = NameHasher::new();
-    for name in 0..4 {
+    for name in 0..4u64 {
         assert_eq!(hasher.hash_one(name) % 64, 0);
         assert_eq!(hasher.hash_one(4 + name) % 64, 1);
     }
