@@ -7,6 +7,8 @@ mod crew;
 #[cfg(test)]
 mod meeting;
 #[cfg(test)]
+mod passes;
+#[cfg(test)]
 mod program;
 #[cfg(test)]
 mod shared;
