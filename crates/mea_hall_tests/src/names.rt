@@ -15,17 +15,17 @@ fn most_at_one_place(step: u64) -> u32 {
 }
 
 #[test]
-fn names_at_even_steps_fill_a_table_evenly() {
+fn names_at_even_steps_fill_a_table_evenly(rt: HostRuntime) {
     for power in 0..17u32 {
-        assert!(most_at_one_place(1 << power) <= 12);
+        assert!(rt; most_at_one_place(1 << power) <= 12);
     }
 }
 
 #[test]
-fn names_that_follow_each_other_lie_side_by_side() {
+fn names_that_follow_each_other_lie_side_by_side(rt: HostRuntime) {
     let hasher = NameHasher::new();
     for name in 0..4u64 {
-        assert_eq!(hasher.hash_one(name) % 64, 0);
-        assert_eq!(hasher.hash_one(4 + name) % 64, 1);
+        assert_eq!(rt; hasher.hash_one(name) % 64, 0);
+        assert_eq!(rt; hasher.hash_one(4 + name) % 64, 1);
     }
 }
