@@ -3,58 +3,66 @@ use futures::future::{pending, ready};
 use mea_futures::{Bell, Blocker};
 use mea_link::latch::Latch;
 use mea_sync::semaphore::Semaphore;
-use mea_wait::End;
+use mea_wait::{End, Waits};
+use std::process::Abort;
 use std::random::RandomSource;
 use std::sync::Wait;
+use std::thread::Threads;
 use std::{io, thread};
 
-// What a wait for a permit came to, which is given back.
-fn told<R: Wait, P: End, E: Drop>(
-    rt: &R,
-    answer: io::Result<Option<Result<P, E>>>,
-) -> &'static str {
+// What a wait for a permit came to.
+#[derive(Drop)]
+enum Came {
+    Permit,
+    Closed,
+    Late,
+    Refused,
+}
+
+// The same of an answer, whose permit is given back.
+fn told<R: Wait, P: End, E: Drop>(rt: &R, answer: io::Result<Option<Result<P, E>>>) -> Came {
     match answer {
         Ok(Some(Ok(permit))) => {
             permit.end(rt);
-            "permit"
+            Came::Permit
         }
-        Ok(Some(Err(_))) => "closed",
-        Ok(None) => "late",
-        Err(_) => "refused",
+        Ok(Some(Err(_))) => Came::Closed,
+        Ok(None) => Came::Late,
+        Err(_) => Came::Refused,
     }
 }
 
-// What waits for the one permit come to while it is held, and then while it is free.
-fn acquires<R: Wait>(
+// Waits for the one permit are late while it is held, and have it while it is free.
+fn waits_again<R: Wait + Abort, F: Waits<Bell, Result<P, E>>, P: End, E: Drop>(
     rt: &R,
     blocker: &mut Blocker,
     semaphore: &Semaphore<Bell>,
-) -> [&'static str; 4] {
+    while_held: (F, F),
+    while_free: (F, F),
+)
+    requires first { F.can_poll while_held.0 }
+    requires second { F.can_poll while_held.1 }
+    requires third { F.can_poll while_free.0 }
+    requires fourth { F.can_poll while_free.1 }
+{
     let held = semaphore.try_acquire(rt, 1);
-    let first = told(
-        rt,
-        blocker.block_before(rt, semaphore.acquire(1), ready(())),
-    );
-    let second = told(
-        rt,
-        blocker.block_before(rt, semaphore.acquire(1), ready(())),
-    );
+    let first = told(rt, blocker.block_before(rt, while_held.0, ready(())));
+    let second = told(rt, blocker.block_before(rt, while_held.1, ready(())));
     held.end(rt);
-    let third = told(
-        rt,
-        blocker.block_before(rt, semaphore.acquire(1), pending()),
-    );
-    let fourth = told(rt, blocker.block(rt, semaphore.acquire(1)).map(Some));
-    [first, second, third, fourth]
+    assert!(rt; matches!((first, second), (Came::Late, Came::Late)));
+    let third = told(rt, blocker.block_before(rt, while_free.0, pending()));
+    let fourth = told(rt, blocker.block(rt, while_free.1).map(Some));
+    assert!(rt; matches!((third, fourth), (Came::Permit, Came::Permit)));
+    assert!(rt; semaphore.available_permits(rt) == 1);
 }
 
 #[test]
 fn a_wait_that_was_given_up_is_made_again(rt: HostRuntime) {
     let semaphore = Semaphore::new(rt.alloc(), 1);
     let mut blocker = Blocker::new(&rt).expect(&rt, "memory");
-    let came = acquires(&rt, &mut blocker, &semaphore);
-    assert!(rt; came == ["late", "late", "permit", "permit"]);
-    assert!(rt; semaphore.available_permits(&rt) == 1);
+    let while_held = (semaphore.acquire(1), semaphore.acquire(1));
+    let while_free = (semaphore.acquire(1), semaphore.acquire(1));
+    waits_again(&rt, &mut blocker, &semaphore, while_held, while_free);
 }
 
 // Whether waits for both latches, one after the other, came to their ends.
@@ -69,20 +77,29 @@ fn passes<R: Wait + RandomSource + AllocGlobal>(
     blocker.block(rt, one.wait()).is_ok() && blocker.block(rt, two.wait()).is_ok()
 }
 
+// Whether it passes latches that another thread opens.
+fn is_woken<R: Wait + Threads + Sync + RandomSource + AllocGlobal>(
+    rt: &R,
+    one: &Latch<Bell>,
+    two: &Latch<Bell>,
+) -> bool {
+    let (passed, ()) = thread::join(
+        rt,
+        || passes(rt, one, two),
+        || {
+            one.count_down(rt);
+            two.count_down(rt);
+        },
+    );
+    passed
+}
+
 // Another thread wakes it each time.
 #[test]
 fn it_is_woken_each_time(rt: HostRuntime) {
     for _ in 0..20u32 {
         let one = Latch::new(rt.alloc(), 1);
         let two = Latch::new(rt.alloc(), 1);
-        let (passed, ()) = thread::join(
-            &rt,
-            || passes(&rt, &one, &two),
-            || {
-                one.count_down(&rt);
-                two.count_down(&rt);
-            },
-        );
-        assert!(rt; passed);
+        assert!(rt; is_woken(&rt, &one, &two));
     }
 }

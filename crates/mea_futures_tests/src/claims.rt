@@ -1,27 +1,59 @@
-use crate::polls::{Answer, Tasks, rests};
+use crate::polls::{Answer, Tasks, given, rests};
 use futures::Future;
 use futures::future::{pending, ready};
 use futures::task::{Context, Poll};
-use futures::test::MockTask;
 use mea_futures::{Bell, initialise};
-use mea_keep::Never;
 use mea_keep::once::OnceCell;
 use mea_keep::singleflight::Group;
-use std::hash::{BuildHasherDefault, FoldHasher};
+use mea_keep::{Claim, Claimed, Never};
+use mea_wait::{End, Waits};
+use std::alloc::AllocGlobal;
+use std::hash::BuildHasher;
 use std::process::Abort;
+use std::random::RandomSource;
+use std::sync::Wait;
 use std::sync::atomic::AtomicU64;
 use std::sync::atomic::Ordering::SeqCst;
 
 // An initialiser is dropped while its future computes: the next that waits fills the cell.
 #[test]
 fn an_abandoned_initialiser_passes_its_turn_on(rt: HostRuntime) {
-    let tasks = Tasks::new(&rt);
     let cell: OnceCell<u64, Bell> = OnceCell::new(rt.alloc());
+    is_abandoned(&rt, &cell, cell.claim(), cell.claim());
+}
+
+// The first computes for ever.
+fn is_abandoned<
+    'c,
+    R: Wait + RandomSource + AllocGlobal + Abort,
+    F: Waits<Bell, Claimed<&'c u64, C>>,
+    C: Claim<u64, &'c u64, G>,
+    G: End,
+>(rt: &R, cell: &'c OnceCell<u64, Bell>, first: F, second: F)
+    requires first { F.can_poll first }
+    requires second { F.can_poll second }
+{
     let init = pending::<Result<u64, Never>>();
-    let never = initialise(&rt, rt.alloc(), cell.claim(), init).expect(&rt, "memory");
+    let never = initialise(rt, rt.alloc(), first, init).expect(rt, "memory");
+    is_taken_over(rt, cell, never, second);
+}
+
+// The second computes at once.
+fn is_taken_over<
+    'c,
+    R: Wait + RandomSource + AllocGlobal + Abort,
+    O: Drop,
+    N: Future<Output = O>,
+    F: Waits<Bell, Claimed<&'c u64, C>>,
+    C: Claim<u64, &'c u64, G>,
+    G: End,
+>(rt: &R, cell: &'c OnceCell<u64, Bell>, never: N, second: F)
+    requires never { N.can_poll never }
+    requires second { F.can_poll second }
+{
     let init = ready(Ok::<u64, Never>(9));
-    let nine = initialise(&rt, rt.alloc(), cell.claim(), init).expect(&rt, "memory");
-    passes_its_turn_on(&rt, &tasks, &cell, never, nine);
+    let nine = initialise(rt, rt.alloc(), second, init).expect(rt, "memory");
+    passes_its_turn_on(rt, &Tasks::new(rt), cell, never, nine);
 }
 
 fn passes_its_turn_on<
@@ -40,10 +72,7 @@ fn passes_its_turn_on<
     assert!(rt; !two.is_woken() && cell.get().is_none());
     drop(never);
     assert!(rt; two.is_woken());
-    match two.poll(&mut nine) {
-        Poll::Ready(Ok(Ok(value))) => assert!(rt; *value == 9),
-        _ => assert!(rt; false, "not filled"),
-    }
+    assert!(rt; given(two.poll(&mut nine)) == Some(&9));
     assert!(rt; cell.get() == Some(&9));
 }
 
@@ -64,11 +93,16 @@ impl<'a> Future for Fetch<'a> {
             return cx.yield_now();
         }
         self.fetches.fetch_add(1, SeqCst);
-        if self.page == 0 {
-            return Poll::Ready(Err(7));
-        }
-        Poll::Ready(Ok(self.page.wrapping_mul(10)))
+        Poll::Ready(fetched(self.page))
     }
+}
+
+// What is there to be fetched. There is no page 0.
+fn fetched(page: u64) -> Result<u64, u8> {
+    if page == 0 {
+        return Err(7);
+    }
+    Ok(page.wrapping_mul(10))
 }
 
 // A fetch that was never polled.
@@ -84,70 +118,73 @@ fn new_fetch(page: u64, fetches: &AtomicU64) -> Fetch<'_> {
 type Page = Answer<u64, u8>;
 
 // What is fetched at a time, by page.
-type Flights = Group<u64, u64, BuildHasherDefault<FoldHasher>, Bell>;
+type Flights<S> = Group<u64, u64, S, Bell>;
 
 // Two requests are polled in turn: the first fetches, and the second waits for it. It tells what both have.
-fn answers<F: Future<Output = Page>>(
-    one: &MockTask,
-    two: &MockTask,
+fn answers<R: Abort, O: Drop, F: Future<Output = O>>(
+    rt: &R,
+    tasks: &Tasks,
     mut first: F,
     mut second: F,
-) -> Option<(Poll<Page>, Poll<Page>)>
+) -> (Poll<O>, Poll<O>)
     requires first { F.can_poll first }
     requires second { F.can_poll second }
 {
-    if one.poll(&mut first).is_ready() {
-        return None;
-    }
-    if two.poll(&mut second).is_ready() {
-        return None;
-    }
-    if two.is_woken() {
-        return None;
-    }
+    let Tasks { one, two } = tasks;
+    assert!(rt; rests(one, &mut first) && rests(two, &mut second));
+    assert!(rt; !two.is_woken());
     let page = one.poll(&mut first);
-    if !two.is_woken() {
-        return None;
-    }
-    let same = two.poll(&mut second);
-    Some((page, same))
+    assert!(rt; two.is_woken());
+    (page, two.poll(&mut second))
+}
+
+// What two requests for a page at a time have, by the claims of both.
+fn both<
+    R: Wait + RandomSource + AllocGlobal + Abort,
+    F: Waits<Bell, Claimed<u64, C>>,
+    C: Claim<u64, u64, G>,
+    G: End,
+>(rt: &R, claims: (F, F), page: u64, fetches: &AtomicU64) -> (Poll<Page>, Poll<Page>)
+    requires first { F.can_poll claims.0 }
+    requires second { F.can_poll claims.1 }
+{
+    let (first, second) = claims;
+    let fetch = new_fetch(page, fetches);
+    let first = initialise(rt, rt.alloc(), first, fetch).expect(rt, "memory");
+    let fetch = new_fetch(page, fetches);
+    let second = initialise(rt, rt.alloc(), second, fetch).expect(rt, "memory");
+    answers(rt, &Tasks::new(rt), first, second)
+}
+
+// The same of a group. It is the only place that has the type of its claims, which the proof builds anew at each call.
+fn requests<R: Wait + RandomSource + AllocGlobal + Abort, S: BuildHasher + Drop>(
+    rt: &R,
+    flights: Flights<S>,
+    page: u64,
+    fetches: &AtomicU64,
+) -> (Poll<Page>, Poll<Page>) {
+    both(
+        rt,
+        (flights.claim(page), flights.claim(page)),
+        page,
+        fetches,
+    )
 }
 
 // Two requests for a page at a time: it is fetched once, and both have it.
 #[test]
 fn a_page_is_fetched_once(rt: HostRuntime) {
-    let Tasks { one, two } = Tasks::new(&rt);
-    let flights: Flights = Group::new(rt.alloc());
     let fetches = AtomicU64::new(0);
-    let fetch = new_fetch(4, &fetches);
-    let first = initialise(&rt, rt.alloc(), flights.claim(4), fetch).expect(&rt, "memory");
-    let fetch = new_fetch(4, &fetches);
-    let second = initialise(&rt, rt.alloc(), flights.claim(4), fetch).expect(&rt, "memory");
-    let both = answers(&one, &two, first, second);
-    assert!(rt; both == Some((Poll::Ready(Ok(Ok(40))), Poll::Ready(Ok(Ok(40))))));
+    let both = requests(&rt, Group::new(rt.alloc()), 4, &fetches);
+    assert!(rt; both == (Poll::Ready(Ok(Ok(40))), Poll::Ready(Ok(Ok(40)))));
     assert!(rt; fetches.load(SeqCst) == 1);
 }
 
-// What a request comes to at its second poll.
-fn second_answer<R: Abort, F: Future<Output = Page>>(
-    rt: &R,
-    task: &MockTask,
-    mut request: F,
-) -> Poll<Page>
-    requires { F.can_poll request }
-{
-    assert!(rt; rests(task, &mut request));
-    task.poll(&mut request)
-}
-
-// A fetch that fails gives its error to who fetched.
+// A fetch that fails gives its error to who fetched; the other fetches itself.
 #[test]
 fn an_error_is_that_of_who_fetched(rt: HostRuntime) {
-    let task = MockTask::new(&rt).expect(&rt, "memory");
-    let flights: Flights = Group::new(rt.alloc());
     let fetches = AtomicU64::new(0);
-    let fetch = new_fetch(0, &fetches);
-    let none = initialise(&rt, rt.alloc(), flights.claim(0), fetch).expect(&rt, "memory");
-    assert!(rt; matches!(second_answer(&rt, &task, none), Poll::Ready(Ok(Err(7)))));
+    let both = requests(&rt, Group::new(rt.alloc()), 0, &fetches);
+    assert!(rt; both == (Poll::Ready(Ok(Err(7))), Poll::Pending));
     assert!(rt; fetches.load(SeqCst) == 1);
 }

@@ -1,6 +1,7 @@
 ghost use Rattle.std.specs.Prelude.{◌≡◌, IsSomeAnd};
 
-use crate::polls::rests;
+use crate::polls::{Answer, rests};
+use crate::waits::holding;
 use futures::Future;
 use futures::executor::block_on;
 use futures::future::{Either, Pending, Select, join, pending, ready, select};
@@ -11,9 +12,12 @@ use mea_link::latch::Latch;
 use mea_sync::mutex::Mutex;
 use mea_sync::semaphore::Semaphore;
 use mea_wait::{End, PollFault, Polled, Unpolled, Waits};
+use std::alloc::AllocGlobal;
+use std::ops::DerefMut;
 use std::process::Abort;
+use std::random::RandomSource;
 use std::sync::{Arc, Wait};
-use std::test::Fail;
+use std::thread::Threads;
 use std::{io, thread};
 
 // Two waits of one latch are joined on a thread, while another thread counts it down.
@@ -21,51 +25,93 @@ use std::{io, thread};
 fn two_waits_of_a_latch_are_joined(rt: HostRuntime) {
     for _ in 0..20u32 {
         let latch = Latch::new(rt.alloc(), 2);
-        let first = wait(&rt, rt.alloc(), latch.wait()).expect(&rt, "memory");
-        let second = wait(&rt, rt.alloc(), latch.wait()).expect(&rt, "memory");
-        let both = join(first, second);
-        let (answers, ()) = thread::join(
-            &rt,
-            || block_on(&rt, both),
-            || {
-                latch.count_down(&rt);
-                latch.count_down(&rt);
-            },
-        );
-        assert!(rt; matches!(answers, Ok((Ok(()), Ok(())))));
+        assert!(rt; are_joined(&rt, &latch, latch.wait(), latch.wait()));
     }
+}
+
+// Whether both waits come to their ends on this thread, while another one counts their latch down.
+fn are_joined<
+    R: Wait + Threads + Sync + RandomSource + AllocGlobal + Abort,
+    F: Waits<Bell, ()> + Send,
+>(rt: &R, latch: &Latch<Bell>, first: F, second: F) -> bool
+    requires first { F.can_poll first }
+    requires second { F.can_poll second }
+{
+    let first = wait(rt, rt.alloc(), first).expect(rt, "memory");
+    let second = wait(rt, rt.alloc(), second).expect(rt, "memory");
+    let both = join(first, second);
+    let (answers, ()) = thread::join(
+        rt,
+        || block_on(rt, both),
+        || {
+            latch.count_down(rt);
+            latch.count_down(rt);
+        },
+    );
+    matches!(answers, Ok((Ok(()), Ok(()))))
 }
 
 // Permits are taken by a thread that waits, and not past a deadline or a close.
 #[test]
 fn permits_are_taken(rt: HostRuntime) {
-    let semaphore = Semaphore::new(rt.alloc(), 2);
-    let kept = take(&rt, &semaphore, 2).expect(&rt, "memory");
-    let kept = kept.expect(&rt, "permits");
-    assert!(rt; kept.get().permits() == 2 && semaphore.available_permits(&rt) == 0);
-    assert!(rt; is_late(take_before(&rt, &semaphore, 1, ready(()))));
+    are_taken(&rt, &Semaphore::new(rt.alloc(), 2));
+}
+
+fn are_taken<R: Wait + RandomSource + AllocGlobal + Abort>(rt: &R, semaphore: &Semaphore<Bell>) {
+    let kept = granted(take(rt, semaphore, 2)).expect(rt, "permits");
+    assert!(rt; kept.get().permits() == 2 && semaphore.available_permits(rt) == 0);
+    assert!(rt; is_late(take_before(rt, semaphore, 1, ready(()))));
     drop(kept);
-    assert!(rt; semaphore.available_permits(&rt) == 2);
-    assert!(rt; is_in_time(take_before(&rt, &semaphore, 1, ready(()))));
-    semaphore.close(&rt);
-    assert!(rt; is_closed(take(&rt, &semaphore, 1)));
+    are_given_back(rt, semaphore);
+}
+
+fn are_given_back<R: Wait + RandomSource + AllocGlobal + Abort>(
+    rt: &R,
+    semaphore: &Semaphore<Bell>,
+) {
+    assert!(rt; semaphore.available_permits(rt) == 2);
+    assert!(rt; is_in_time(take_before(rt, semaphore, 1, ready(()))));
+    semaphore.close(rt);
+    assert!(rt; is_closed(take(rt, semaphore, 1)));
+}
+
+// What was waited for, if it came to that.
+fn granted<P: Drop, E: Drop>(answer: io::Result<Result<P, E>>) -> Option<P> {
+    match answer {
+        Ok(Ok(granted)) => Some(granted),
+        Ok(Err(_)) | Err(_) => None,
+    }
 }
 
 // A wait on this thread is one line, for any wait of the library.
 #[test]
-fn a_wait_is_one_line(rt: HostRuntime) -> Result<(), Fail> {
+fn a_wait_is_one_line(rt: HostRuntime) {
     let mutex = Mutex::new(rt.alloc(), 6u64);
-    let mut guard = block(&rt, mutex.lock())?;
-    *guard = 7;
-    assert!(rt; !ends(&rt, block_before(&rt, mutex.lock(), ready(()))));
-    guard.end(&rt);
-    assert!(rt; ends(&rt, block_before(&rt, mutex.lock(), ready(()))));
+    writes(&rt, mutex.lock(), (mutex.lock(), mutex.lock()), 7);
     assert!(rt; mutex.into_inner() == Some(7));
     let semaphore = Semaphore::new(rt.alloc(), 1);
-    let permit = block(&rt, semaphore.acquire(1))??;
+    let permit = block(&rt, semaphore.acquire(1)).expect(&rt, "memory");
+    let permit = permit.expect(&rt, "a permit");
     assert!(rt; permit.permits() == 1);
     permit.end(&rt);
-    Ok(())
+}
+
+// Writes by the guard that a wait gives. Of two further waits one is late while the guard is there, and one is not after it.
+fn writes<
+    R: Wait + RandomSource + AllocGlobal + Abort,
+    F: Waits<Bell, G>,
+    G: End + DerefMut<Target = u64>,
+>(rt: &R, lock: F, further: (F, F), value: u64)
+    requires lock { F.can_poll lock }
+    requires late { F.can_poll further.0 }
+    requires after { F.can_poll further.1 }
+{
+    let (late, after) = further;
+    let mut guard = block(rt, lock).expect(rt, "a guard");
+    *guard = value;
+    assert!(rt; !ends(rt, block_before(rt, late, ready(()))));
+    guard.end(rt);
+    assert!(rt; ends(rt, block_before(rt, after, ready(()))));
 }
 
 // A wait that is refused at each poll.
@@ -105,12 +151,32 @@ fn ends<R: Wait, P: End>(rt: &R, given: io::Result<Option<P>>) -> bool {
 #[test]
 fn a_borrowed_acquire_is_selected(rt: HostRuntime) {
     let semaphore = Semaphore::new(rt.alloc(), 1);
-    let first = wait(&rt, rt.alloc(), semaphore.acquire(1)).expect(&rt, "memory");
-    let held = block_on(&rt, first.try_holding());
-    assert!(rt; matches!(held, Ok(Ok(Ok(_)))));
-    let second = wait(&rt, rt.alloc(), semaphore.acquire(1)).expect(&rt, "memory");
-    let late = block_on(&rt, select(second.try_holding(), ready(())));
-    assert!(rt; matches!(late, Ok(Either::Right(_))));
+    is_selected(&rt, semaphore.acquire(1), semaphore.acquire(1));
+}
+
+fn is_selected<
+    R: Wait + RandomSource + AllocGlobal + Abort,
+    F: Waits<Bell, Result<P, E>>,
+    P: End,
+    E: Drop,
+>(rt: &R, first: F, second: F)
+    requires first { F.can_poll first }
+    requires second { F.can_poll second }
+{
+    let held = block_on(rt, holding(rt, first));
+    assert!(rt; is_held(&held));
+    let late = block_on(rt, select(holding(rt, second), ready(())));
+    assert!(rt; is_of_the_second(late));
+}
+
+// Whether a wait came to what it waits for.
+fn is_held<P, E>(answer: &io::Result<Answer<P, E>>) -> bool {
+    matches!(answer, Ok(Ok(Ok(_))))
+}
+
+// Whether the second arm of a select came first.
+fn is_of_the_second<A: Drop, B: Drop>(arm: io::Result<Either<A, B>>) -> bool {
+    matches!(arm, Ok(Either::Right(_)))
 }
 
 // Whether the deadline came before the permits.
@@ -201,22 +267,31 @@ impl<F: Future<Output = Result<(), PollFault>>> Future for Until<F> {
 // A wait goes from select to select, and the task still hears of it: two jobs are done, and a third never ends.
 #[test]
 fn a_wait_is_kept_from_select_to_select(rt: HostRuntime) {
-    let task = MockTask::new(&rt).expect(&rt, "memory");
     let latch = Arc::new(rt.alloc(), Latch::new(rt.alloc(), 1)).expect(&rt, "memory");
     let opening = Arc::try_clone(&latch).expect(&rt, "memory").wait_owned();
-    let opening = wait(&rt, rt.alloc(), opening).expect(&rt, "memory");
-    is_kept(&rt, &task, &*latch, opening);
+    is_kept(&rt, &*latch, opening);
 }
 
-fn is_kept<R: Wait + Abort, F: Future<Output = Result<(), PollFault>>>(
+fn is_kept<R: Wait + RandomSource + AllocGlobal + Abort, F: Waits<Bell, ()>>(
     rt: &R,
-    task: &MockTask,
     latch: &Latch<Bell>,
     opening: F,
 )
     requires { F.can_poll opening }
 {
-    let mut until = Until::new(opening);
+    let opening = wait(rt, rt.alloc(), opening).expect(rt, "memory");
+    let task = MockTask::new(rt).expect(rt, "memory");
+    goes_on(rt, &task, latch, Until::new(opening));
+}
+
+fn goes_on<R: Wait + Abort, F: Future<Output = u64>>(
+    rt: &R,
+    task: &MockTask,
+    latch: &Latch<Bell>,
+    mut until: F,
+)
+    requires { F.can_poll until }
+{
     assert!(rt; rests(task, &mut until) && rests(task, &mut until));
     assert!(rt; rests(task, &mut until) && rests(task, &mut until));
     assert!(rt; rests(task, &mut until) && !task.is_woken());

@@ -1,88 +1,103 @@
-ghost use Rattle.std.specs.Prelude.{◌≡◌, IsSomeAnd};
-
-use crate::job::{acquire, queued, shared};
+use crate::job::{acquire, shared};
 use crate::polls::{Answer, Tasks, has, rests};
+use crate::waits::{holding, is_granted, is_pending};
 use futures::Future;
 use futures::task::Poll;
 use futures::test::MockTask;
-use mea_futures::{Bell, TryHolding};
+use mea_futures::Bell;
 use mea_sync::semaphore::Semaphore;
 use mea_wait::{End, Waits};
+use std::alloc::AllocGlobal;
 use std::process::Abort;
+use std::random::RandomSource;
 use std::sync::Wait;
-use std::time::{Duration, Instant};
+use std::time::{Clock, Duration, Instant};
 use tokio::time::Driver;
 
 // A further poll of the same task wakes nobody; one of another task takes the wait over.
 #[test]
 fn a_wait_wakes_the_task_that_polled_it_last(rt: HostRuntime) {
-    let tasks = Tasks::new(&rt);
     let semaphore = shared(&rt, 0);
-    takes_over(&rt, &tasks, &*semaphore, queued(&rt, &semaphore, 1));
+    takes_over(&rt, &*semaphore, acquire(&rt, &semaphore, 1));
 }
 
-fn takes_over<R: Wait + Abort, P: Drop, E: Drop, F: Future<Output = Answer<P, E>>>(
-    rt: &R,
-    tasks: &Tasks,
-    semaphore: &Semaphore<Bell>,
-    mut first: F,
-)
+fn takes_over<
+    R: Wait + RandomSource + AllocGlobal + Abort,
+    F: Waits<Bell, Result<P, E>>,
+    P: End,
+    E: Drop,
+>(rt: &R, semaphore: &Semaphore<Bell>, first: F)
     requires { F.can_poll first }
 {
-    let Tasks { one, two } = tasks;
-    assert!(rt; rests(one, &mut first) && rests(one, &mut first));
+    let tasks = Tasks::new(rt);
+    let Tasks { one, two } = &tasks;
+    let mut first = holding(rt, first);
+    assert!(rt; is_pending(one, &mut first) && is_pending(one, &mut first));
     assert!(rt; !one.is_woken());
-    assert!(rt; rests(two, &mut first));
+    assert!(rt; is_pending(two, &mut first));
     assert!(rt; one.is_woken() && !two.is_woken());
     assert!(rt; semaphore.release(rt, 1).is_ok() && two.is_woken());
-    assert!(rt; has(two, &mut first));
+    assert!(rt; is_granted(two, &mut first));
     assert!(rt; semaphore.available_permits(rt) == 1);
 }
 
 // A queued acquire of three, paid two in part, is dropped before one behind it.
 #[test]
 fn a_dropped_acquire_lets_the_next_one_in(rt: HostRuntime) {
-    let tasks = Tasks::new(&rt);
     let semaphore = shared(&rt, 2);
-    let (first, second) = (queued(&rt, &semaphore, 3), queued(&rt, &semaphore, 1));
-    lets_the_next_one_in(&rt, &tasks, &*semaphore, first, second);
+    let (first, second) = (acquire(&rt, &semaphore, 3), acquire(&rt, &semaphore, 1));
+    lets_the_next_one_in(&rt, &*semaphore, first, second);
 }
 
-fn lets_the_next_one_in<R: Wait + Abort, P: Drop, E: Drop, F: Future<Output = Answer<P, E>>>(
-    rt: &R,
-    tasks: &Tasks,
-    semaphore: &Semaphore<Bell>,
-    mut first: F,
-    mut second: F,
-)
+fn lets_the_next_one_in<
+    R: Wait + RandomSource + AllocGlobal + Abort,
+    F: Waits<Bell, Result<P, E>>,
+    P: End,
+    E: Drop,
+>(rt: &R, semaphore: &Semaphore<Bell>, first: F, second: F)
     requires first { F.can_poll first }
     requires second { F.can_poll second }
 {
-    let Tasks { one, two } = tasks;
-    assert!(rt; rests(one, &mut first) && rests(two, &mut second));
+    let tasks = Tasks::new(rt);
+    let Tasks { one, two } = &tasks;
+    let (mut first, mut second) = (holding(rt, first), holding(rt, second));
+    assert!(rt; is_pending(one, &mut first) && is_pending(two, &mut second));
     assert!(rt; !two.is_woken());
     drop(first);
     assert!(rt; two.is_woken() && semaphore.available_permits(rt) == 1);
-    assert!(rt; has(two, &mut second));
+    assert!(rt; is_granted(two, &mut second));
     assert!(rt; semaphore.available_permits(rt) == 2);
 }
 
 // A time limit of tokio abandons a queued acquire, and the next one has its turn.
 #[test]
 fn a_timeout_abandons_a_queued_acquire(rt: HostRuntime) {
-    let tasks = Tasks::new(&rt);
     let semaphore = shared(&rt, 2);
-    let start = Instant::now(&rt).expect(&rt, "the time");
-    let mut driver = Driver::new(rt.alloc(), start).expect(&rt, "memory");
-    let (first, second) = (queued(&rt, &semaphore, 3), queued(&rt, &semaphore, 1));
+    let (first, second) = (acquire(&rt, &semaphore, 3), acquire(&rt, &semaphore, 1));
+    is_timed(&rt, first, second);
+}
+
+// The first has a time limit, and the second has none.
+fn is_timed<
+    R: Wait + Clock + RandomSource + AllocGlobal + Abort,
+    F: Waits<Bell, Result<P, E>>,
+    P: End,
+    E: Drop,
+>(rt: &R, first: F, second: F)
+    requires first { F.can_poll first }
+    requires second { F.can_poll second }
+{
+    let start = Instant::now(rt).expect(rt, "the time");
+    let mut driver = Driver::new(rt.alloc(), start).expect(rt, "memory");
     let timed = driver
         .handle()
-        .timeout(&rt, Duration::from_millis(20), first)
-        .expect(&rt, "memory");
+        .timeout(rt, Duration::from_millis(20), holding(rt, first))
+        .expect(rt, "memory");
     let late = start
         .checked_add(Duration::from_secs(3600))
-        .expect(&rt, "an hour is no great time");
-    abandons(&rt, &tasks, &mut driver, late, timed, second);
+        .expect(rt, "an hour is no great time");
+    let second = holding(rt, second);
+    abandons(rt, &Tasks::new(rt), &mut driver, late, timed, second);
 }
 
 fn abandons<
@@ -112,65 +127,57 @@ fn abandons<
 // A further wait with the same bell, after one that was ready.
 #[test]
 fn a_wait_that_was_ready_begins_again(rt: HostRuntime) {
-    let task = MockTask::new(&rt).expect(&rt, "memory");
     let semaphore = shared(&rt, 1);
-    let (first, next) = (queued(&rt, &semaphore, 1), acquire(&rt, &semaphore, 2));
-    begins_again(&rt, &task, &*semaphore, first, next);
+    let (first, next) = (acquire(&rt, &semaphore, 1), acquire(&rt, &semaphore, 2));
+    begins_again(&rt, &*semaphore, first, next);
 }
 
-fn begins_again<'a, R: Wait + Abort, F: Waits<Bell, Result<P, E>>, P: End, E: Drop>(
-    rt: &'a R,
-    task: &MockTask,
-    semaphore: &Semaphore<Bell>,
-    mut first: TryHolding<'a, R, F, P, E>,
-    next: F,
-)
-    requires first { IsSomeAnd first.waiting.wait F.can_poll }
+fn begins_again<
+    R: Wait + RandomSource + AllocGlobal + Abort,
+    F: Waits<Bell, Result<P, E>>,
+    P: End,
+    E: Drop,
+>(rt: &R, semaphore: &Semaphore<Bell>, first: F, next: F)
+    requires first { F.can_poll first }
     requires next { F.can_poll next }
 {
-    assert!(rt; has(task, &mut first));
+    let task = &MockTask::new(rt).expect(rt, "memory");
+    let mut first = holding(rt, first);
+    assert!(rt; is_granted(task, &mut first));
     first.restart(next);
-    assert!(rt; rests(task, &mut first) && !task.is_woken());
+    assert!(rt; is_pending(task, &mut first) && !task.is_woken());
     assert!(rt; semaphore.release(rt, 1).is_ok() && task.is_woken());
-    assert!(rt; has(task, &mut first));
+    assert!(rt; is_granted(task, &mut first));
     assert!(rt; semaphore.available_permits(rt) == 2);
 }
 
 // One that was not ready yet is ended by the further wait, which stands behind those who wait by then.
 #[test]
 fn a_wait_that_was_not_ready_is_ended_by_the_next(rt: HostRuntime) {
-    let tasks = Tasks::new(&rt);
     let semaphore = shared(&rt, 1);
-    let (first, second) = (queued(&rt, &semaphore, 2), queued(&rt, &semaphore, 1));
-    is_ended_by_the_next(
-        &rt,
-        &tasks,
-        &*semaphore,
-        first,
-        second,
-        acquire(&rt, &semaphore, 1),
-    );
+    let (first, second) = (acquire(&rt, &semaphore, 2), acquire(&rt, &semaphore, 1));
+    is_ended_by_the_next(&rt, &*semaphore, first, second, acquire(&rt, &semaphore, 1));
 }
 
-fn is_ended_by_the_next<'a, R: Wait + Abort, F: Waits<Bell, Result<P, E>>, P: End, E: Drop>(
-    rt: &'a R,
-    tasks: &Tasks,
-    semaphore: &Semaphore<Bell>,
-    mut first: TryHolding<'a, R, F, P, E>,
-    mut second: TryHolding<'a, R, F, P, E>,
-    next: F,
-)
-    requires first { IsSomeAnd first.waiting.wait F.can_poll }
-    requires second { IsSomeAnd second.waiting.wait F.can_poll }
+fn is_ended_by_the_next<
+    R: Wait + RandomSource + AllocGlobal + Abort,
+    F: Waits<Bell, Result<P, E>>,
+    P: End,
+    E: Drop,
+>(rt: &R, semaphore: &Semaphore<Bell>, first: F, second: F, next: F)
+    requires first { F.can_poll first }
+    requires second { F.can_poll second }
     requires next { F.can_poll next }
 {
-    let Tasks { one, two } = tasks;
-    assert!(rt; rests(one, &mut first) && rests(two, &mut second));
+    let tasks = Tasks::new(rt);
+    let Tasks { one, two } = &tasks;
+    let (mut first, mut second) = (holding(rt, first), holding(rt, second));
+    assert!(rt; is_pending(one, &mut first) && is_pending(two, &mut second));
     assert!(rt; !two.is_woken());
     first.restart(next);
-    assert!(rt; two.is_woken() && rests(one, &mut first) && !one.is_woken());
-    assert!(rt; has(two, &mut second));
+    assert!(rt; two.is_woken() && is_pending(one, &mut first) && !one.is_woken());
+    assert!(rt; is_granted(two, &mut second));
     assert!(rt; one.is_woken());
-    assert!(rt; has(one, &mut first));
+    assert!(rt; is_granted(one, &mut first));
     assert!(rt; semaphore.available_permits(rt) == 1);
 }

@@ -1,8 +1,10 @@
 ghost use Rattle.std.specs.Prelude.{◌≡◌, None, IsSome, IfNone};
 
+use crate::polls::granted;
+use crate::waits::holding;
 use futures::task::{Context, Poll};
 use futures::{Future, ready};
-use mea_futures::{Acquiring, Bell, Kept, wait};
+use mea_futures::{Acquiring, Bell, Kept};
 use mea_sync::semaphore::{OwnedAcquire, OwnedSemaphorePermit, Semaphore};
 use std::alloc::AllocGlobal;
 use std::process::Abort;
@@ -70,19 +72,6 @@ pub fn acquire<R: Abort>(
         .acquire_owned(permits)
 }
 
-/// A wait for so many permits that was never polled.
-pub fn queued<'a, R: Wait + AllocGlobal + Abort>(
-    rt: &'a R,
-    semaphore: &Arc<Semaphore<Bell>>,
-    permits: usize,
-) -> Acquiring<'a, R>
-    ensures { IsSome result.waiting.wait }
-{
-    wait(rt, rt.alloc(), acquire(rt, semaphore, permits))
-        .expect(rt, "memory")
-        .try_holding()
-}
-
 /// A task: it acquires, yields with the permit, and gives it back where it drops what it kept.
 #[derive(Drop)]
 pub struct Job<'a, R: Wait> {
@@ -98,7 +87,7 @@ impl<'a, R: Wait + AllocGlobal + Abort> Job<'a, R> {
     {
         Job {
             seen,
-            acquire: queued(rt, semaphore, 1),
+            acquire: holding(rt, acquire(rt, semaphore, 1)),
             held: None,
         }
     }
@@ -116,13 +105,13 @@ impl<'a, R: Wait> Future for Job<'a, R> {
             drop(held);
             return Poll::Ready(());
         }
-        match ready!(self.acquire.poll(cx)) {
-            Ok(Ok(permit)) => {
+        match granted(ready!(self.acquire.poll(cx))) {
+            Some(permit) => {
                 self.seen.enter();
                 self.held = Some(permit);
                 cx.yield_now()
             }
-            _ => Poll::Ready(()),
+            None => Poll::Ready(()),
         }
     }
 }

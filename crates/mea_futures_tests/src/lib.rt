@@ -24,3 +24,5 @@ mod sinks;
 mod streams;
 #[cfg(test)]
 mod supervisor;
+#[cfg(test)]
+mod waits;

@@ -52,3 +52,19 @@ pub fn has<P: Drop, E: Drop, F: Future<Output = Answer<P, E>>>(
 {
     matches!(task.poll(future), Poll::Ready(Ok(Ok(_))))
 }
+
+/// What a wait waited for, if it came to that.
+pub fn granted<P: Drop, E: Drop>(answer: Answer<P, E>) -> Option<P> {
+    match answer {
+        Ok(Ok(granted)) => Some(granted),
+        Ok(Err(_)) | Err(_) => None,
+    }
+}
+
+/// What a poll gives of that, if it is ready.
+pub fn given<P: Drop, E: Drop>(poll: Poll<Answer<P, E>>) -> Option<P> {
+    match poll {
+        Poll::Ready(answer) => granted(answer),
+        Poll::Pending => None,
+    }
+}
