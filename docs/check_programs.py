@@ -12,7 +12,7 @@ import sys
 
 TOP = os.path.join(os.path.dirname(os.path.abspath(__file__)), "..")
 PAGES = {
-    "docs/USING.md": ["crates/mea_uses", "crates/mea_shared_pool_tests"],
+    "docs/USING.md": ["crates/mea_uses"],
     "docs/EXECUTORS.md": ["crates/mea_uses", "crates/mea_futures_tests"],
     "crates/mea/CALLING.md": ["crates/mea_uses"],
     "crates/mea_futures/CALLING.md": ["crates/mea_uses"],

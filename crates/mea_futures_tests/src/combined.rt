@@ -1,10 +1,8 @@
 ghost use Rattle.std.specs.Prelude.{◌≡◌, IsSomeAnd};
 
-use crate::polls::{Answer, rests};
-use crate::waits::holding;
+use crate::polls::rests;
 use futures::Future;
-use futures::executor::block_on;
-use futures::future::{Either, Pending, Select, join, pending, ready, select};
+use futures::future::{Either, Pending, Select, pending, ready, select};
 use futures::task::{Context, Poll};
 use futures::test::MockTask;
 use mea_futures::{Bell, TakeError, block, block_before, take, take_before, wait};
@@ -13,43 +11,11 @@ use mea_sync::mutex::Mutex;
 use mea_sync::semaphore::Semaphore;
 use mea_wait::{End, PollFault, Polled, Unpolled, Waits};
 use std::alloc::AllocGlobal;
+use std::io;
 use std::ops::DerefMut;
 use std::process::Abort;
 use std::random::RandomSource;
 use std::sync::{Arc, Wait};
-use std::thread::Threads;
-use std::{io, thread};
-
-// Two waits of one latch are joined on a thread, while another thread counts it down.
-#[test]
-fn two_waits_of_a_latch_are_joined(rt: HostRuntime) {
-    for _ in 0..20u32 {
-        let latch = Latch::new(rt.alloc(), 2);
-        assert!(rt; are_joined(&rt, &latch, latch.wait(), latch.wait()));
-    }
-}
-
-// Whether both waits come to their ends on this thread, while another one counts their latch down.
-fn are_joined<
-    R: Wait + Threads + Sync + RandomSource + AllocGlobal + Abort,
-    F: Waits<Bell, ()> + Send,
->(rt: &R, latch: &Latch<Bell>, first: F, second: F) -> bool
-    requires first { F.can_poll first }
-    requires second { F.can_poll second }
-{
-    let first = wait(rt, rt.alloc(), first).expect(rt, "memory");
-    let second = wait(rt, rt.alloc(), second).expect(rt, "memory");
-    let both = join(first, second);
-    let (answers, ()) = thread::join(
-        rt,
-        || block_on(rt, both),
-        || {
-            latch.count_down(rt);
-            latch.count_down(rt);
-        },
-    );
-    matches!(answers, Ok((Ok(()), Ok(()))))
-}
 
 // Permits are taken by a thread that waits, and not past a deadline or a close.
 #[test]
@@ -89,11 +55,6 @@ fn a_wait_is_one_line(rt: HostRuntime) {
     let mutex = Mutex::new(rt.alloc(), 6u64);
     writes(&rt, mutex.lock(), (mutex.lock(), mutex.lock()), 7);
     assert!(rt; mutex.into_inner() == Some(7));
-    let semaphore = Semaphore::new(rt.alloc(), 1);
-    let permit = block(&rt, semaphore.acquire(1)).expect(&rt, "memory");
-    let permit = permit.expect(&rt, "a permit");
-    assert!(rt; permit.permits() == 1);
-    permit.end(&rt);
 }
 
 // Writes by the guard that a wait gives. Of two further waits one is late while the guard is there, and one is not after it.
@@ -145,38 +106,6 @@ fn ends<R: Wait, P: End>(rt: &R, given: io::Result<Option<P>>) -> bool {
         }
         Ok(None) | Err(_) => false,
     }
-}
-
-// The acquire of a borrowed semaphore goes to the kit's executor and combinators as it is.
-#[test]
-fn a_borrowed_acquire_is_selected(rt: HostRuntime) {
-    let semaphore = Semaphore::new(rt.alloc(), 1);
-    is_selected(&rt, semaphore.acquire(1), semaphore.acquire(1));
-}
-
-fn is_selected<
-    R: Wait + RandomSource + AllocGlobal + Abort,
-    F: Waits<Bell, Result<P, E>>,
-    P: End,
-    E: Drop,
->(rt: &R, first: F, second: F)
-    requires first { F.can_poll first }
-    requires second { F.can_poll second }
-{
-    let held = block_on(rt, holding(rt, first));
-    assert!(rt; is_held(&held));
-    let late = block_on(rt, select(holding(rt, second), ready(())));
-    assert!(rt; is_of_the_second(late));
-}
-
-// Whether a wait came to what it waits for.
-fn is_held<P, E>(answer: &io::Result<Answer<P, E>>) -> bool {
-    matches!(answer, Ok(Ok(Ok(_))))
-}
-
-// Whether the second arm of a select came first.
-fn is_of_the_second<A: Drop, B: Drop>(arm: io::Result<Either<A, B>>) -> bool {
-    matches!(arm, Ok(Either::Right(_)))
 }
 
 // Whether the deadline came before the permits.

@@ -1,10 +1,12 @@
+ghost use Rattle.std.specs.Prelude.{◌≡◌, IsSomeAnd};
+
 use crate::job::{acquire, shared};
 use crate::polls::{Answer, Tasks, has, rests};
 use crate::waits::{holding, is_granted, is_pending};
 use futures::Future;
 use futures::task::Poll;
 use futures::test::MockTask;
-use mea_futures::Bell;
+use mea_futures::{Bell, TryHolding};
 use mea_sync::semaphore::Semaphore;
 use mea_wait::{End, Waits};
 use std::alloc::AllocGlobal;
@@ -41,40 +43,13 @@ fn takes_over<
     assert!(rt; semaphore.available_permits(rt) == 1);
 }
 
-// A queued acquire of three, paid two in part, is dropped before one behind it.
-#[test]
-fn a_dropped_acquire_lets_the_next_one_in(rt: HostRuntime) {
-    let semaphore = shared(&rt, 2);
-    let (first, second) = (acquire(&rt, &semaphore, 3), acquire(&rt, &semaphore, 1));
-    lets_the_next_one_in(&rt, &*semaphore, first, second);
-}
-
-fn lets_the_next_one_in<
-    R: Wait + RandomSource + AllocGlobal + Abort,
-    F: Waits<Bell, Result<P, E>>,
-    P: End,
-    E: Drop,
->(rt: &R, semaphore: &Semaphore<Bell>, first: F, second: F)
-    requires first { F.can_poll first }
-    requires second { F.can_poll second }
-{
-    let tasks = Tasks::new(rt);
-    let Tasks { one, two } = &tasks;
-    let (mut first, mut second) = (holding(rt, first), holding(rt, second));
-    assert!(rt; is_pending(one, &mut first) && is_pending(two, &mut second));
-    assert!(rt; !two.is_woken());
-    drop(first);
-    assert!(rt; two.is_woken() && semaphore.available_permits(rt) == 1);
-    assert!(rt; is_granted(two, &mut second));
-    assert!(rt; semaphore.available_permits(rt) == 2);
-}
-
 // A time limit of tokio abandons a queued acquire, and the next one has its turn.
 #[test]
 fn a_timeout_abandons_a_queued_acquire(rt: HostRuntime) {
     let semaphore = shared(&rt, 2);
     let (first, second) = (acquire(&rt, &semaphore, 3), acquire(&rt, &semaphore, 1));
     is_timed(&rt, first, second);
+    assert!(rt; semaphore.available_permits(&rt) == 2);
 }
 
 // The first has a time limit, and the second has none.
@@ -124,12 +99,14 @@ fn abandons<
     assert!(rt; has(two, &mut second));
 }
 
-// A further wait with the same bell, after one that was ready.
+// A further wait with the same bell: after one that was not ready yet, which it ends and whose place it does not have, and
+// after one that was ready.
 #[test]
-fn a_wait_that_was_ready_begins_again(rt: HostRuntime) {
+fn a_wait_begins_again(rt: HostRuntime) {
     let semaphore = shared(&rt, 1);
-    let (first, next) = (acquire(&rt, &semaphore, 1), acquire(&rt, &semaphore, 2));
-    begins_again(&rt, &*semaphore, first, next);
+    let (first, second) = (acquire(&rt, &semaphore, 2), acquire(&rt, &semaphore, 1));
+    let further = (acquire(&rt, &semaphore, 1), acquire(&rt, &semaphore, 2));
+    begins_again(&rt, &*semaphore, first, second, further);
 }
 
 fn begins_again<
@@ -137,47 +114,55 @@ fn begins_again<
     F: Waits<Bell, Result<P, E>>,
     P: End,
     E: Drop,
->(rt: &R, semaphore: &Semaphore<Bell>, first: F, next: F)
+>(rt: &R, semaphore: &Semaphore<Bell>, first: F, second: F, further: (F, F))
     requires first { F.can_poll first }
-    requires next { F.can_poll next }
+    requires second { F.can_poll second }
+    requires next { F.can_poll further.0 }
+    requires last { F.can_poll further.1 }
 {
-    let task = &MockTask::new(rt).expect(rt, "memory");
+    let tasks = Tasks::new(rt);
+    let (next, last) = further;
     let mut first = holding(rt, first);
-    assert!(rt; is_granted(task, &mut first));
-    first.restart(next);
-    assert!(rt; is_pending(task, &mut first) && !task.is_woken());
-    assert!(rt; semaphore.release(rt, 1).is_ok() && task.is_woken());
-    assert!(rt; is_granted(task, &mut first));
+    is_ended_by_the_next(rt, &tasks, &mut first, holding(rt, second), next);
+    assert!(rt; semaphore.available_permits(rt) == 1);
+    is_done_again(rt, &tasks.one, semaphore, &mut first, last);
     assert!(rt; semaphore.available_permits(rt) == 2);
 }
 
-// One that was not ready yet is ended by the further wait, which stands behind those who wait by then.
-#[test]
-fn a_wait_that_was_not_ready_is_ended_by_the_next(rt: HostRuntime) {
-    let semaphore = shared(&rt, 1);
-    let (first, second) = (acquire(&rt, &semaphore, 2), acquire(&rt, &semaphore, 1));
-    is_ended_by_the_next(&rt, &*semaphore, first, second, acquire(&rt, &semaphore, 1));
-}
-
-fn is_ended_by_the_next<
-    R: Wait + RandomSource + AllocGlobal + Abort,
-    F: Waits<Bell, Result<P, E>>,
-    P: End,
-    E: Drop,
->(rt: &R, semaphore: &Semaphore<Bell>, first: F, second: F, next: F)
-    requires first { F.can_poll first }
-    requires second { F.can_poll second }
+// One that was not ready is ended by the next, which stands behind those who wait by then.
+fn is_ended_by_the_next<R: Wait + Abort, F: Waits<Bell, Result<P, E>>, P: End, E: Drop>(
+    rt: &R,
+    tasks: &Tasks,
+    first: &mut TryHolding<'_, R, F, P, E>,
+    mut second: TryHolding<'_, R, F, P, E>,
+    next: F,
+)
+    requires first { IsSomeAnd first.old.waiting.wait F.can_poll }
+    requires second { IsSomeAnd second.waiting.wait F.can_poll }
     requires next { F.can_poll next }
 {
-    let tasks = Tasks::new(rt);
-    let Tasks { one, two } = &tasks;
-    let (mut first, mut second) = (holding(rt, first), holding(rt, second));
-    assert!(rt; is_pending(one, &mut first) && is_pending(two, &mut second));
+    let Tasks { one, two } = tasks;
+    assert!(rt; is_pending(one, first) && is_pending(two, &mut second));
     assert!(rt; !two.is_woken());
     first.restart(next);
-    assert!(rt; two.is_woken() && is_pending(one, &mut first) && !one.is_woken());
+    assert!(rt; two.is_woken() && is_pending(one, first) && !one.is_woken());
     assert!(rt; is_granted(two, &mut second));
     assert!(rt; one.is_woken());
-    assert!(rt; is_granted(one, &mut first));
-    assert!(rt; semaphore.available_permits(rt) == 1);
+    assert!(rt; is_granted(one, first));
+}
+
+// One that was ready is done with, and the next waits for one permit more than are there.
+fn is_done_again<R: Wait + Abort, F: Waits<Bell, Result<P, E>>, P: End, E: Drop>(
+    rt: &R,
+    task: &MockTask,
+    semaphore: &Semaphore<Bell>,
+    first: &mut TryHolding<'_, R, F, P, E>,
+    next: F,
+)
+    requires { F.can_poll next }
+{
+    first.restart(next);
+    assert!(rt; is_pending(task, first) && !task.is_woken());
+    assert!(rt; semaphore.release(rt, 1).is_ok() && task.is_woken());
+    assert!(rt; is_granted(task, first));
 }

@@ -17,8 +17,6 @@ mod polls;
 #[cfg(test)]
 mod pools;
 #[cfg(test)]
-mod selects;
-#[cfg(test)]
 mod sinks;
 #[cfg(test)]
 mod streams;

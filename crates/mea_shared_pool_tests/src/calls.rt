@@ -1,16 +1,27 @@
-use crate::leases::{granted, hears, pool, share, uses, waits};
+use crate::leases::{bell, granted, hears, pool, share, uses, waits};
 use mea_shared_pool::Pool;
-use mea_test_support::{Bell, Count, count, end, gives, goes_on, rung};
+use mea_test_support::{Bell, Count, end, gives, goes_on, rung};
 use std::process::Abort;
 use std::sync::{Arc, Wait};
 
-// Who waits gets the resource that comes back, with its value, and in the order of the first polls.
+// Who waits gets the resource that comes back, with its value, and in the order of the first polls. A pool that is not drained
+// keeps its resources.
 #[test]
 fn leases_go_in_the_order_of_first_polls(rt: HostRuntime) {
-    let one = count(rt.alloc()).expect(&rt, "memory");
-    let two = count(rt.alloc()).expect(&rt, "memory");
-    let pool = pool(&rt, 2);
+    let one = bell(&rt);
+    let two = bell(&rt);
+    let undrained: Pool<u64, Bell> = pool(&rt, 2);
+    let pool = undrained
+        .into_resources()
+        .err()
+        .expect(&rt, "a pool that is not drained");
     go_in_order(&rt, &pool, &one, &two);
+    pool.drain(&rt);
+    let resources = pool
+        .into_resources()
+        .ok()
+        .expect(&rt, "a pool that is drained");
+    assert_eq!(&rt; resources.as_slice(), [31, 22].as_slice());
 }
 
 fn go_in_order<R: Wait + Abort>(rt: &R, pool: &Pool<u64, Bell>, one: &Count, two: &Count) {
@@ -31,13 +42,22 @@ fn go_in_order<R: Wait + Abort>(rt: &R, pool: &Pool<u64, Bell>, one: &Count, two
     assert!(rt; (rung(one), rung(two), pool.idle(rt)) == (1, 1, 2));
 }
 
-// A wait that is given up leaves the line, and hands on what it was granted.
+// A wait that is given up leaves the line, and hands on what it was granted. A drain refuses who waits and who comes; one that
+// was granted gets its lease, and the last to come back ends the drain.
 #[test]
-fn a_wait_that_is_given_up_hands_on(rt: HostRuntime) {
-    let one = count(rt.alloc()).expect(&rt, "memory");
-    let two = count(rt.alloc()).expect(&rt, "memory");
+fn waits_are_given_up_and_the_pool_drains(rt: HostRuntime) {
+    let one = bell(&rt);
+    let two = bell(&rt);
+    let three = bell(&rt);
+    let four = bell(&rt);
     let pool = pool(&rt, 1);
     hands_on(&rt, &pool, &one, &two);
+    drains(&rt, &pool, &three, &four);
+    let resources = pool
+        .into_resources()
+        .ok()
+        .expect(&rt, "a pool that is drained");
+    assert_eq!(&rt; resources.as_slice(), [50].as_slice());
 }
 
 fn hands_on<R: Wait + Abort>(rt: &R, pool: &Pool<u64, Bell>, one: &Count, two: &Count) {
@@ -55,34 +75,20 @@ fn hands_on<R: Wait + Abort>(rt: &R, pool: &Pool<u64, Bell>, one: &Count, two: &
     assert!(rt; pool.idle(rt) == 1);
 }
 
-// A drain refuses who waits and who comes; one that was granted gets its lease, and the last to come back ends the drain.
-#[test]
-fn a_drain_ends_with_the_last_lease(rt: HostRuntime) {
-    let one = count(rt.alloc()).expect(&rt, "memory");
-    let two = count(rt.alloc()).expect(&rt, "memory");
-    let pool = pool(&rt, 1);
-    drains(&rt, &pool, &one, &two);
-    let resources = pool
-        .into_resources()
-        .ok()
-        .expect(&rt, "a pool that is drained");
-    assert_eq!(&rt; resources.as_slice(), [30].as_slice());
-}
-
 fn drains<R: Wait + Abort>(rt: &R, pool: &Pool<u64, Bell>, one: &Count, two: &Count) {
     let held = pool.try_get(rt);
     let first = waits(rt, pool.get(), one);
     let second = waits(rt, pool.get(), one);
     let ended = goes_on(rt, pool.drained(), two);
     let drained = goes_on(rt, pool.drained(), two);
-    assert!(rt; uses(rt, held, 20) == Some(10));
+    assert!(rt; uses(rt, held, 40) == Some(30));
     assert!(rt; (rung(one), rung(two), pool.is_draining(rt)) == (1, 0, false));
     pool.drain(rt);
     assert!(rt; (rung(one), rung(two), pool.is_draining(rt)) == (2, 0, true));
     assert!(rt; hears(rt, second, one) && hears(rt, Some(pool.get()), one));
     assert!(rt; !end(rt, pool.try_get(rt)) && !pool.is_drained(rt));
     assert!(rt; end(rt, ended));
-    assert!(rt; uses(rt, granted(rt, first, one), 30) == Some(20));
+    assert!(rt; uses(rt, granted(rt, first, one), 50) == Some(40));
     assert!(rt; (rung(one), rung(two), pool.is_drained(rt)) == (2, 1, true));
     assert!(rt; gives(rt, drained, two) == Some(()));
     pool.drain(rt);
@@ -93,7 +99,7 @@ fn drains<R: Wait + Abort>(rt: &R, pool: &Pool<u64, Bell>, one: &Count, two: &Co
 // The forms that own a share of the pool.
 #[test]
 fn owned_forms(rt: HostRuntime) {
-    let bell = count(rt.alloc()).expect(&rt, "memory");
+    let bell = bell(&rt);
     let pool = Arc::new(rt.alloc(), pool(&rt, 2)).expect(&rt, "memory");
     owns(&rt, &pool, &bell);
 }
@@ -114,25 +120,10 @@ fn owns<R: Wait + Abort>(rt: &R, pool: &Arc<Pool<u64, Bell>>, bell: &Count) {
     assert!(rt; gives(rt, drained, bell) == Some(()));
 }
 
-// A pool that is not drained keeps its resources; one of none is drained at once.
-#[test]
-fn resources_come_back_once_drained(rt: HostRuntime) {
-    let pool: Pool<u64, Bell> = pool(&rt, 2);
-    let back = pool
-        .into_resources()
-        .err()
-        .expect(&rt, "a pool that is not drained");
-    back.drain(&rt);
-    let resources = back
-        .into_resources()
-        .ok()
-        .expect(&rt, "a pool that is drained");
-    assert_eq!(&rt; resources.as_slice(), [10, 11].as_slice());
-}
-
+// A pool of no resources is drained at once.
 #[test]
 fn a_pool_of_none_is_drained_at_once(rt: HostRuntime) {
-    let bell = count(rt.alloc()).expect(&rt, "memory");
+    let bell = bell(&rt);
     let pool = pool(&rt, 0);
     has_none(&rt, &pool, &bell);
 }

@@ -3,11 +3,16 @@ ghost use Rattle.std.specs.Prelude.{IfSome};
 
 use mea_base::Wake;
 use mea_shared_pool::{Closed, Pool};
-use mea_test_support::{Bell, Count, PollOutcome, gives, poll};
+use mea_test_support::{Bell, Count, PollOutcome, count, gives, poll};
 use mea_wait::{End, Waits};
 use std::ops::DerefMut;
 use std::process::Abort;
 use std::sync::{Arc, Wait};
+
+/// A count of no wakes.
+pub(crate) fn bell(rt: &(impl Abort + AllocGlobal)) -> Count {
+    count(rt.alloc()).expect(rt, "memory")
+}
 
 /// A pool of so many resources: the first is 10, and each further one more.
 pub(crate) fn pool<W: Wake>(rt: &(impl Abort + AllocGlobal), size: u64) -> Pool<u64, W> {

@@ -1,6 +1,6 @@
-use crate::leases::pool;
+use crate::leases::{bell, pool};
 use mea_shared_pool::{Closed, Pool};
-use mea_test_support::{Bell, Count, count, polled_for};
+use mea_test_support::{Bell, Count, polled_for};
 use mea_wait::End;
 use std::sync::Wait;
 use std::sync::atomic::AtomicU64;
@@ -83,7 +83,7 @@ fn added(resources: &[u64]) -> Option<u64> {
 // was added to them is one for each lease.
 #[test]
 fn waits_given_up_lose_no_resource(rt: HostRuntime) {
-    let rung = count(rt.alloc()).expect(&rt, "memory");
+    let rung = bell(&rt);
     let resources = vec![in rt.alloc(); 10_000_000u64, 20_000_000, 30_000_000].expect(
         &rt, "memory",
     );
@@ -122,7 +122,7 @@ fn plays<R: Wait>(rt: &R, place: &Place, thread: u64) -> bool {
 
 #[test]
 fn a_drain_beside_three_who_ask(rt: HostRuntime) {
-    let rung = count(rt.alloc()).expect(&rt, "memory");
+    let rung = bell(&rt);
     let place = Place {
         pool: pool(&rt, 2),
         rung,

@@ -1,22 +1,26 @@
+use crate::guards::bell;
 use mea_link::broadcast::overflow::{self, RecvError};
 use mea_link::mpsc::{
     BoundedReceiver, BoundedSender, RecvError as Ended, SendError, TryRecvError, TrySendError,
     UnboundedError, UnboundedReceiver, UnboundedSender, bounded, unbounded,
 };
-use mea_test_support::{Bell, Count, count, end, gives, goes_on, rung};
+use mea_test_support::{Bell, Count, end, gives, goes_on, rung};
 use mea_wait::{End, Waits};
 use std::process::Abort;
 use std::sync::Wait;
 
-// A full channel keeps a send waiting until a message is received, in order.
+// A full channel keeps a send waiting until a message is received, in order. A further sender keeps it open once the first has
+// ended; the end of the last wakes a receive that waits.
 #[test]
 fn a_bounded_channel(rt: HostRuntime) {
-    let bell = count(rt.alloc()).expect(&rt, "memory");
+    let one = bell(&rt);
+    let two = bell(&rt);
     let (sender, mut receiver) = bounded(rt.alloc(), 1).expect(&rt, "memory");
-    keeps_a_send_waiting(&rt, &sender, &mut receiver, &bell);
-    receiver.end(&rt);
-    assert!(rt; sender.try_send(&rt, 1) == Err(TrySendError::Disconnected(1)));
+    keeps_a_send_waiting(&rt, &sender, &mut receiver, &one);
+    let last: BoundedSender<u64, Bell> = sender.clone_handle(&rt).expect(&rt, "memory");
     sender.end(&rt);
+    hears_the_last(&rt, last, receiver.recv(), &two, Ended::Disconnected);
+    receiver.end(&rt);
 }
 
 fn keeps_a_send_waiting<R: Wait + Abort>(
@@ -35,13 +39,17 @@ fn keeps_a_send_waiting<R: Wait + Abort>(
     assert!(rt; receiver.try_recv(rt) == Err(TryRecvError::Empty));
 }
 
-// A receiver that waits is woken by a message, and hears that the last sender has ended.
+// A receiver that waits is woken by a message. A further sender keeps the channel open once the first has ended, and the receiver
+// hears that the last has.
 #[test]
 fn an_unbounded_channel(rt: HostRuntime) {
-    let bell = count(rt.alloc()).expect(&rt, "memory");
+    let one = bell(&rt);
+    let two = bell(&rt);
     let (sender, mut receiver) = unbounded(rt.alloc()).expect(&rt, "memory");
-    wakes_its_receiver(&rt, &sender, &mut receiver, &bell);
+    wakes_its_receiver(&rt, &sender, &mut receiver, &one);
+    let last: UnboundedSender<u64, Bell> = sender.clone_handle(&rt).expect(&rt, "memory");
     sender.end(&rt);
+    hears_the_last(&rt, last, receiver.recv(), &two, Ended::Disconnected);
     assert!(rt; receiver.try_recv(&rt) == Err(TryRecvError::Disconnected));
     receiver.end(&rt);
 }
@@ -56,33 +64,6 @@ fn wakes_its_receiver<R: Wait + Abort>(
     assert!(rt; sender.send(rt, 5).is_ok());
     assert!(rt; rung(bell) == 1);
     assert!(rt; gives(rt, recv, bell) == Some(Ok(5)));
-}
-
-// A slow receiver of a broadcast hears how many messages it has lost.
-#[test]
-fn a_broadcast(rt: HostRuntime) {
-    let bell = count(rt.alloc()).expect(&rt, "memory");
-    let (sender, mut slow) = overflow::channel(rt.alloc(), 2).expect(&rt, "memory");
-    for message in 1..5u64 {
-        assert!(rt; sender.send(&rt, message).is_ok());
-    }
-    has_lost_two(&rt, &sender, &mut slow, &bell);
-    sender.end(&rt);
-}
-
-fn has_lost_two<R: Wait + Abort>(
-    rt: &R,
-    sender: &overflow::Sender<u64, Bell>,
-    slow: &mut overflow::Receiver<u64, Bell>,
-    bell: &Count,
-) {
-    assert!(rt; gives(rt, Some(slow.recv()), bell) == Some(Err(RecvError::Lagged(2))));
-    assert!(rt; slow.try_recv(rt) == Ok(3));
-    assert!(rt; slow.try_recv(rt) == Ok(4));
-    let recv = goes_on(rt, slow.recv(), bell);
-    assert!(rt; sender.send(rt, 6).is_ok());
-    assert!(rt; rung(bell) == 1);
-    assert!(rt; gives(rt, recv, bell) == Some(Ok(6)));
 }
 
 // A receive that waits is woken by the end of the last sender, and told of it.
@@ -101,47 +82,15 @@ fn hears_the_last<R: Wait + Abort, S: End, E: Drop + PartialEq, F: Waits<Bell, R
     assert!(rt; gives(rt, recv, bell) == Some(Err(told)));
 }
 
-// A further sender of a bounded channel keeps it open once the first has ended.
-#[test]
-fn the_last_sender_of_a_bounded_channel(rt: HostRuntime) {
-    let bell = count(rt.alloc()).expect(&rt, "memory");
-    let (sender, mut receiver) = bounded(rt.alloc(), 1).expect(&rt, "memory");
-    let last: BoundedSender<u64, Bell> = sender.clone_handle(&rt).expect(&rt, "memory");
-    sender.end(&rt);
-    hears_the_last(&rt, last, receiver.recv(), &bell, Ended::Disconnected);
-    receiver.end(&rt);
-}
-
-// The same of an unbounded channel.
-#[test]
-fn the_last_sender_of_an_unbounded_channel(rt: HostRuntime) {
-    let bell = count(rt.alloc()).expect(&rt, "memory");
-    let (sender, mut receiver) = unbounded(rt.alloc()).expect(&rt, "memory");
-    let last: UnboundedSender<u64, Bell> = sender.clone_handle(&rt).expect(&rt, "memory");
-    sender.end(&rt);
-    hears_the_last(&rt, last, receiver.recv(), &bell, Ended::Disconnected);
-    receiver.end(&rt);
-}
-
-// The same of a broadcast.
-#[test]
-fn the_last_sender_of_a_broadcast(rt: HostRuntime) {
-    let bell = count(rt.alloc()).expect(&rt, "memory");
-    let (sender, mut receiver) = overflow::channel(rt.alloc(), 2).expect(&rt, "memory");
-    let last: overflow::Sender<u64, Bell> = sender.clone_handle(&rt).expect(&rt, "memory");
-    sender.end(&rt);
-    hears_the_last(&rt, last, receiver.recv(), &bell, RecvError::Disconnected);
-    receiver.end(&rt);
-}
-
 // A send that is ended once it has its place passes that on. The end of the receiver wakes a send that waits, whose value
 // comes back.
 #[test]
 fn sends_that_wait(rt: HostRuntime) {
-    let one = count(rt.alloc()).expect(&rt, "memory");
-    let two = count(rt.alloc()).expect(&rt, "memory");
+    let one = bell(&rt);
+    let two = bell(&rt);
     let (sender, receiver) = bounded(rt.alloc(), 1).expect(&rt, "memory");
     pass_their_place_on(&rt, &sender, receiver, &one, &two);
+    assert!(rt; sender.try_send(&rt, 1) == Err(TrySendError::Disconnected(1)));
     sender.end(&rt);
 }
 
@@ -187,13 +136,18 @@ fn next_two<R: Wait>(
     (first, second)
 }
 
-// A copy hears what its original has yet to hear, and who subscribes what is sent from then on.
+// A copy hears what its original has yet to hear, and who subscribes what is sent from then on. A receive that waits is woken by a
+// message, and by the end of the last sender.
 #[test]
 fn receivers_of_a_broadcast(rt: HostRuntime) {
+    let bell = bell(&rt);
     let (sender, mut receiver) = overflow::channel(rt.alloc(), 4).expect(&rt, "memory");
     are_made(&rt, &sender, &mut receiver);
-    receiver.end(&rt);
+    assert!(rt; receiver.try_recv(&rt) == Ok(3));
+    let last: overflow::Sender<u64, Bell> = sender.clone_handle(&rt).expect(&rt, "memory");
     sender.end(&rt);
+    hears_the_last(&rt, last, receiver.recv(), &bell, RecvError::Disconnected);
+    receiver.end(&rt);
 }
 
 fn are_made<R: Wait + Abort>(

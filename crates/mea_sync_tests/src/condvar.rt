@@ -1,7 +1,7 @@
-use crate::guards::{finds, sets, share};
+use crate::guards::{bell, finds, sets, share};
 use mea_sync::condvar::{Condvar, CondvarWait};
 use mea_sync::mutex::Mutex;
-use mea_test_support::{Bell, Count, count, end, gives, pends, rung};
+use mea_test_support::{Bell, Count, end, gives, pends, rung};
 use std::process::Abort;
 use std::sync::{Arc, Wait};
 
@@ -16,14 +16,18 @@ fn waits<'a, R: Wait>(
     pends(rt, of.wait(guard), count)
 }
 
-// A wait gives the lock back, is woken by the notification, and has the guard again.
+// A wait gives the lock back, is woken by the notification, and has the guard again. It keeps its own mutex, so waits of two mutexes
+// go by one condition variable.
 #[test]
-fn a_wait_is_notified(rt: HostRuntime) {
-    let one = count(rt.alloc()).expect(&rt, "memory");
-    let two = count(rt.alloc()).expect(&rt, "memory");
-    let mutex = Mutex::new(rt.alloc(), 0);
+fn waits_are_notified(rt: HostRuntime) {
+    let one = bell(&rt);
+    let two = bell(&rt);
+    let three = bell(&rt);
+    let first = Mutex::new(rt.alloc(), 1);
+    let second = Mutex::new(rt.alloc(), 2);
     let condvar = Condvar::new(rt.alloc());
-    is_notified(&rt, &condvar, &mutex, &one, &two);
+    is_notified(&rt, &condvar, &first, &one, &two);
+    keep_their_mutex(&rt, &condvar, &first, &second, &three);
 }
 
 fn is_notified<R: Wait + Abort>(
@@ -47,7 +51,7 @@ fn is_notified<R: Wait + Abort>(
 // A wait with a condition goes on until it does not hold.
 #[test]
 fn a_wait_goes_on_while_its_condition_holds(rt: HostRuntime) {
-    let bell = count(rt.alloc()).expect(&rt, "memory");
+    let bell = bell(&rt);
     let mutex = Arc::new(rt.alloc(), Mutex::new(rt.alloc(), 0)).expect(&rt, "memory");
     let condvar = Condvar::new(rt.alloc());
     goes_on_while_it_holds(&rt, &condvar, &mutex, &bell);
@@ -71,15 +75,6 @@ fn goes_on_while_it_holds<R: Wait + Abort>(
     condvar.notify_all(rt);
     assert!(rt; rung(bell) == 2);
     assert!(rt; finds(rt, wait, bell) == Some(2));
-}
-
-// A wait keeps its own mutex, so waits of two mutexes go by one condition variable.
-#[test]
-fn waits_keep_their_mutex(rt: HostRuntime) {
-    let bell = count(rt.alloc()).expect(&rt, "memory");
-    let first = Mutex::new(rt.alloc(), 1);
-    let second = Mutex::new(rt.alloc(), 2);
-    keep_their_mutex(&rt, &Condvar::new(rt.alloc()), &first, &second, &bell);
 }
 
 fn keep_their_mutex<R: Wait + Abort>(

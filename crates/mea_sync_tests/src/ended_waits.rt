@@ -1,3 +1,4 @@
+use crate::guards::bell;
 use crate::meeting_points::has_a_leader;
 use mea_base::Poll;
 use mea_link::barrier::Barrier;
@@ -7,7 +8,7 @@ use mea_link::shutdown::{ShutdownRecv, ShutdownSend, new_pair};
 use mea_link::waitgroup::WaitGroup;
 use mea_meet_core::{BarrierCore, BarrierWait, GroupWait, LatchWait};
 use mea_meet_seats::{GroupSeats, LatchSeats, Seat, withdraw_from};
-use mea_test_support::{Bell, Count, PollOutcome, count, end, gives, goes_on, poll, rung};
+use mea_test_support::{Bell, Count, PollOutcome, end, gives, goes_on, poll, rung};
 use mea_wait::{End, Waits};
 use std::process::Abort;
 use std::sync::{Arc, Wait};
@@ -139,7 +140,7 @@ fn is_given_back(rt: &impl Abort, group: &mut Group) {
 // A million waits for one shutdown are polled and ended: none keeps its waker, and none is woken.
 #[test]
 fn a_million_waits_for_a_shutdown(rt: HostRuntime) {
-    let bell = count(rt.alloc()).expect(&rt, "memory");
+    let bell = bell(&rt);
     let (sender, receiver) = new_pair(rt.alloc()).expect(&rt, "memory");
     for _ in 0..1_000_000u64 {
         assert!(rt; comes_and_goes(&rt, receiver.is_shutdown(), &bell));
@@ -168,7 +169,7 @@ fn one_waits_for_a_shutdown<R: Wait + Abort>(
 // A million waits of one receiver are polled and ended before a message comes: one waker is kept, and woken.
 #[test]
 fn a_million_waits_for_a_message(rt: HostRuntime) {
-    let bell = count(rt.alloc()).expect(&rt, "memory");
+    let bell = bell(&rt);
     let (sender, mut receiver) = overflow::channel(rt.alloc(), 2).expect(&rt, "memory");
     for _ in 0..1_000_000u64 {
         assert!(rt; comes_and_goes(&rt, receiver.recv(), &bell));
@@ -191,11 +192,11 @@ fn a_message_comes<R: Wait + Abort>(
     assert!(rt; gives(rt, Some(receiver.recv()), bell) == Some(Ok(5)));
 }
 
-// A wait that ended is not woken by its latch or group, and those beside it are.
+// A wait that ended is not woken by its latch or group, and those beside it are. A latch stays at 0.
 #[test]
 fn only_those_who_wait_are_woken(rt: HostRuntime) {
-    let bell = count(rt.alloc()).expect(&rt, "memory");
-    let latch = Latch::new(rt.alloc(), 1);
+    let bell = bell(&rt);
+    let latch = Latch::new(rt.alloc(), 3);
     one_of_three_is_woken(&rt, &latch, &bell);
     let group = WaitGroup::new(rt.alloc()).expect(&rt, "memory");
     nobody_else_is_woken(&rt, group, &bell);
@@ -206,22 +207,29 @@ fn one_of_three_is_woken<R: Wait + Abort>(rt: &R, latch: &Latch<Bell>, bell: &Co
     let other = goes_on(rt, latch.wait(), bell);
     assert!(rt; comes_and_goes(rt, latch.wait(), bell));
     latch.count_down(rt);
-    assert!(rt; rung(bell) == 1);
+    assert!(rt; latch.count(rt) == 2 && latch.try_wait(rt) == Err(2) && rung(bell) == 0);
+    latch.arrive(rt, 5);
+    assert!(rt; rung(bell) == 1 && latch.try_wait(rt) == Ok(()));
     assert!(rt; gives(rt, other, bell) == Some(()));
 }
 
+// The group's own wait ends, and a copy of it waits on until the last handle has ended.
 fn nobody_else_is_woken<R: Wait + Abort>(rt: &R, first: WaitGroup<Bell>, bell: &Count) {
     let second = first.clone_handle(rt).ok();
-    assert!(rt; comes_and_goes(rt, first.into_future(rt), bell));
+    let wait = first.into_future(rt);
+    let copy = wait.clone_wait().expect(rt, "memory");
+    assert!(rt; comes_and_goes(rt, wait, bell));
     assert!(rt; Arc::strong_count(bell) == 1);
+    let copy = goes_on(rt, copy, bell);
     assert!(rt; end(rt, second));
-    assert!(rt; rung(bell) == 1);
+    assert!(rt; rung(bell) == 2);
+    assert!(rt; gives(rt, copy, bell) == Some(()));
 }
 
 // The arrival of a wait that ended at a barrier counts, and its waker is gone.
 #[test]
 fn an_arrival_stays_without_its_waker(rt: HostRuntime) {
-    let bell = count(rt.alloc()).expect(&rt, "memory");
+    let bell = bell(&rt);
     let barrier = Barrier::new(rt.alloc(), 3);
     assert!(rt; comes_and_goes(&rt, barrier.wait(), &bell));
     assert!(rt; Arc::strong_count(&bell) == 1);

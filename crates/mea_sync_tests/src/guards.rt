@@ -1,11 +1,16 @@
 //! What is done with a guard: no test keeps one.
 ghost use Rattle.std.specs.Prelude.{IfSome};
 
-use mea_test_support::{Bell, Count, gives};
+use mea_test_support::{Bell, Count, count, gives};
 use mea_wait::{End, Waits};
 use std::ops::{Deref, DerefMut};
 use std::process::Abort;
 use std::sync::{Arc, Wait};
+
+/// A count of no wakes.
+pub(crate) fn bell(rt: &(impl Abort + AllocGlobal)) -> Count {
+    count(rt.alloc()).expect(rt, "memory")
+}
 
 /// What a guard shows, if there is one; it is ended.
 pub(crate) fn shows<R: Wait, G: End + Deref<Target = u64>>(

@@ -16,8 +16,12 @@ mod link_threads;
 #[cfg(test)]
 mod lock_threads;
 #[cfg(test)]
+mod mapped;
+#[cfg(test)]
 mod meeting_points;
 mod merging;
+#[cfg(test)]
+mod missing;
 #[cfg(test)]
 mod mutex;
 #[cfg(test)]

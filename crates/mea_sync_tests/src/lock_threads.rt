@@ -1,8 +1,8 @@
-use crate::guards::{sets, shows};
+use crate::guards::{bell, sets, shows};
 use mea_sync::mutex::Mutex;
 use mea_sync::rwlock::RwLock;
 use mea_sync::semaphore::{Closed, Semaphore};
-use mea_test_support::{Bell, Count, count, end, found, polled_for};
+use mea_test_support::{Bell, Count, end, found, polled_for};
 use mea_wait::End;
 use std::process::Abort;
 use std::sync::Wait;
@@ -59,7 +59,7 @@ impl Plays for Acquires {
 fn stress_test(rt: HostRuntime) {
     let place = Acquires {
         semaphore: Semaphore::new(rt.alloc(), 5),
-        rung: count(rt.alloc()).expect(&rt, "memory"),
+        rung: bell(&rt),
         abandons: false,
     };
     on_threads(&rt, 100, &place);
@@ -94,7 +94,7 @@ fn abandons<R: Wait>(rt: &R, of: &Semaphore<Bell>, count: &Count, thread: u64) {
 fn abandoned_waits_give_all_back(rt: HostRuntime) {
     let place = Acquires {
         semaphore: Semaphore::new(rt.alloc(), 3),
-        rung: count(rt.alloc()).expect(&rt, "memory"),
+        rung: bell(&rt),
         abandons: true,
     };
     on_threads(&rt, 4, &place);
@@ -140,7 +140,7 @@ impl Plays for Visits {
 fn a_writer_and_eight_readers(rt: HostRuntime) {
     let place = Visits {
         lock: RwLock::new(rt.alloc(), 1u64),
-        rung: count(rt.alloc()).expect(&rt, "memory"),
+        rung: bell(&rt),
     };
     on_threads(&rt, 9, &place);
     assert!(rt; shows(&rt, found(place.lock.try_read(&rt))) == Some(101));

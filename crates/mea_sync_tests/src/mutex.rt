@@ -1,6 +1,6 @@
-use crate::guards::{finds, sets, share, shows};
+use crate::guards::{bell, finds, sets, share, shows};
 use mea_sync::mutex::Mutex;
-use mea_test_support::{Bell, Count, count, end, gives, pends, rung};
+use mea_test_support::{Bell, Count, end, gives, pends, rung};
 use std::process::Abort;
 use std::sync::{Arc, Wait};
 
@@ -9,14 +9,19 @@ fn is_free<R: Wait>(rt: &R, mutex: &Mutex<u64, Bell>) -> bool {
     end(rt, mutex.try_lock(rt))
 }
 
-// The lock goes to the first that waits, with the value as it was left.
+// The lock goes to the first that waits, with the value as it was left. Who has the whole mutex writes its value with no guard.
 #[test]
 fn a_mutex_is_handed_on(rt: HostRuntime) {
-    let one = count(rt.alloc()).expect(&rt, "memory");
-    let two = count(rt.alloc()).expect(&rt, "memory");
-    let mutex = Mutex::new(rt.alloc(), 5);
+    let one = bell(&rt);
+    let two = bell(&rt);
+    let mut mutex = Mutex::new(rt.alloc(), 5);
     is_handed_on(&rt, &mutex, &one, &two);
-    assert!(rt; mutex.into_inner() == Some(7));
+    assert!(rt; mutex.get_mut() == Some(&mut 7));
+    match mutex.get_mut() {
+        Some(value) => *value = 6,
+        None => assert!(rt; false),
+    }
+    assert!(rt; mutex.into_inner() == Some(6));
 }
 
 fn is_handed_on<R: Wait + Abort>(rt: &R, mutex: &Mutex<u64, Bell>, one: &Count, two: &Count) {
@@ -35,7 +40,7 @@ fn is_handed_on<R: Wait + Abort>(rt: &R, mutex: &Mutex<u64, Bell>, one: &Count, 
 // The forms that own a share of the mutex.
 #[test]
 fn owned_guards(rt: HostRuntime) {
-    let bell = count(rt.alloc()).expect(&rt, "memory");
+    let bell = bell(&rt);
     let mutex = Arc::new(rt.alloc(), Mutex::new(rt.alloc(), 1)).expect(&rt, "memory");
     are_owned(&rt, &mutex, &bell);
 }
@@ -46,15 +51,4 @@ fn are_owned<R: Wait + Abort>(rt: &R, mutex: &Arc<Mutex<u64, Bell>>, bell: &Coun
     assert!(rt; !is_free(rt, mutex));
     assert!(rt; shows(rt, guard) == Some(3));
     assert!(rt; is_free(rt, mutex));
-}
-
-// Who has the whole mutex writes its value with no guard.
-#[test]
-fn a_mutex_is_had_whole(rt: HostRuntime) {
-    let mut mutex: Mutex<u64, Bell> = Mutex::new(rt.alloc(), 5);
-    match mutex.get_mut() {
-        Some(value) => *value = 6,
-        None => assert!(rt; false),
-    }
-    assert!(rt; mutex.into_inner() == Some(6));
 }

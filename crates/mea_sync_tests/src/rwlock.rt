@@ -1,19 +1,24 @@
-use crate::guards::{sets, share, shows};
+use crate::guards::{bell, sets, share, shows};
 use mea_sync::rwlock::{RwLock, RwLockReadGuard, RwLockWriteGuard};
-use mea_test_support::{Bell, Count, count, end, found, gives, pends, rung};
+use mea_test_support::{Bell, Count, end, found, gives, pends, rung};
 use mea_wait::End;
 use std::num::NonZeroUsize;
 use std::process::Abort;
 use std::sync::{Arc, Wait};
 
-// Several read at a time, and one writes once they have all ended.
+// Several read at a time, and one writes once they have all ended. A write that gives up lets the reads behind it in, and a read
+// that gives up once it was let in the write behind it.
 #[test]
 fn readers_share_and_a_writer_is_alone(rt: HostRuntime) {
-    let one = count(rt.alloc()).expect(&rt, "memory");
-    let two = count(rt.alloc()).expect(&rt, "memory");
+    let one = bell(&rt);
+    let two = bell(&rt);
+    let three = bell(&rt);
+    let four = bell(&rt);
     let lock = RwLock::new(rt.alloc(), 4);
     are_let_in(&rt, &lock, &one, &two);
-    assert!(rt; lock.into_inner() == Some(9));
+    assert!(rt; shows(&rt, found(lock.try_read(&rt))) == Some(9));
+    let_the_next_in(&rt, &lock, &three, &four);
+    assert!(rt; lock.into_inner() == Some(5));
 }
 
 fn are_let_in<R: Wait + Abort>(rt: &R, lock: &RwLock<u64, Bell>, one: &Count, two: &Count) {
@@ -53,7 +58,7 @@ fn becomes_read<'a, R: Wait>(
 // As many readers as were asked for, and the forms that own a share of the lock.
 #[test]
 fn owned_guards_and_a_most(rt: HostRuntime) {
-    let bell = count(rt.alloc()).expect(&rt, "memory");
+    let bell = bell(&rt);
     let lock = RwLock::with_max_readers(rt.alloc(), 2, NonZeroUsize::MIN);
     let lock = Arc::new(rt.alloc(), lock).expect(&rt, "memory");
     are_owned(&rt, &lock, &bell);
@@ -66,16 +71,6 @@ fn are_owned<R: Wait + Abort>(rt: &R, lock: &Arc<RwLock<u64, Bell>>, bell: &Coun
     assert!(rt; end(rt, gives(rt, Some(share(rt, lock).write_owned()), bell)));
     assert!(rt; end(rt, gives(rt, Some(share(rt, lock).read_owned()), bell)));
     assert!(rt; end(rt, share(rt, lock).try_write_owned(rt)));
-}
-
-// A write that gives up lets the reads behind it in, and a read that gives up once it was let in the write behind it.
-#[test]
-fn waits_that_give_up(rt: HostRuntime) {
-    let one = count(rt.alloc()).expect(&rt, "memory");
-    let two = count(rt.alloc()).expect(&rt, "memory");
-    let lock = RwLock::new(rt.alloc(), 4);
-    let_the_next_in(&rt, &lock, &one, &two);
-    assert!(rt; lock.into_inner() == Some(5));
 }
 
 fn let_the_next_in<R: Wait + Abort>(rt: &R, lock: &RwLock<u64, Bell>, one: &Count, two: &Count) {

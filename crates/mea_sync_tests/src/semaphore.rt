@@ -1,10 +1,10 @@
 ghost use Rattle.std.specs.Prelude.{IfSome};
 
-use crate::guards::share;
+use crate::guards::{bell, share};
 use crate::merging::merged;
 use mea_base::Overflow;
 use mea_sync::semaphore::{Closed, Semaphore, SemaphorePermit};
-use mea_test_support::{Bell, Count, PollOutcome, count, end, found, gives, poll, rung};
+use mea_test_support::{Bell, Count, PollOutcome, end, found, gives, poll, rung};
 use mea_wait::{End, Waits};
 use std::process::Abort;
 use std::sync::{Arc, Wait};
@@ -80,13 +80,20 @@ fn can_take<R: Wait>(rt: &R, semaphore: &Semaphore<Bell>, permits: usize) -> boo
     end(rt, semaphore.try_acquire(rt, permits))
 }
 
-// A release pays the first that waits, and its end the second: each is woken once, in this order.
+// A release pays the first that waits, and its end the second: each is woken once, in this order. What an abandoned acquire was
+// paid goes to the next. A close wakes who waits, who then hears of it.
 #[test]
-fn a_release_wakes_the_first(rt: HostRuntime) {
-    let one = count(rt.alloc()).expect(&rt, "memory");
-    let two = count(rt.alloc()).expect(&rt, "memory");
+fn waits_of_a_semaphore(rt: HostRuntime) {
+    let one = bell(&rt);
+    let two = bell(&rt);
+    let three = bell(&rt);
+    let four = bell(&rt);
+    let five = bell(&rt);
     let semaphore = Semaphore::new(rt.alloc(), 0);
     wakes_the_first(&rt, &semaphore, &one, &two);
+    assert!(rt; semaphore.release(&rt, 1) == Ok(()));
+    pays_the_next(&rt, &semaphore, &three, &four);
+    is_heard(&rt, &semaphore, &five);
 }
 
 fn wakes_the_first<R: Wait + Abort>(rt: &R, semaphore: &Semaphore<Bell>, one: &Count, two: &Count) {
@@ -105,15 +112,6 @@ fn wakes_the_first<R: Wait + Abort>(rt: &R, semaphore: &Semaphore<Bell>, one: &C
     assert!(rt; has_free(rt, semaphore, 1));
 }
 
-// What an abandoned acquire was paid goes to the next.
-#[test]
-fn an_abandoned_acquire_pays_the_next(rt: HostRuntime) {
-    let one = count(rt.alloc()).expect(&rt, "memory");
-    let two = count(rt.alloc()).expect(&rt, "memory");
-    let semaphore = Semaphore::new(rt.alloc(), 2);
-    pays_the_next(&rt, &semaphore, &one, &two);
-}
-
 fn pays_the_next<R: Wait + Abort>(rt: &R, semaphore: &Semaphore<Bell>, one: &Count, two: &Count) {
     let first = waits(rt, semaphore.acquire(3), one);
     let second = waits(rt, semaphore.acquire(2), two);
@@ -124,16 +122,9 @@ fn pays_the_next<R: Wait + Abort>(rt: &R, semaphore: &Semaphore<Bell>, one: &Cou
     assert!(rt; has_free(rt, semaphore, 2));
 }
 
-// A close wakes who waits, who then hears of it; permits come back as before.
-#[test]
-fn a_close_is_heard(rt: HostRuntime) {
-    let bell = count(rt.alloc()).expect(&rt, "memory");
-    let semaphore = Semaphore::new(rt.alloc(), 1);
-    is_heard(&rt, &semaphore, &bell);
-}
-
+// Both permits are held, and come back as before once it is closed.
 fn is_heard<R: Wait + Abort>(rt: &R, semaphore: &Semaphore<Bell>, bell: &Count) {
-    let held = semaphore.try_acquire(rt, 1);
+    let held = semaphore.try_acquire(rt, 2);
     let first = waits(rt, semaphore.acquire(1), bell);
     assert!(rt; !semaphore.is_closed(rt));
     semaphore.close(rt);
@@ -141,7 +132,7 @@ fn is_heard<R: Wait + Abort>(rt: &R, semaphore: &Semaphore<Bell>, bell: &Count) 
     assert!(rt; rung(bell) == 1);
     assert!(rt; hears(rt, first, bell));
     assert!(rt; end(rt, held));
-    assert!(rt; has_free(rt, semaphore, 1));
+    assert!(rt; has_free(rt, semaphore, 2));
     assert!(rt; !can_take(rt, semaphore, 1));
     assert!(rt; !semaphore.try_acquire_and_forget(rt, 1));
 }
@@ -197,8 +188,10 @@ fn are_forgotten<R: Wait + Abort>(rt: &R, semaphore: &Semaphore<Bell>) {
 // The forms that own a share of the semaphore, and those that forget.
 #[test]
 fn owned_and_forgetting_forms(rt: HostRuntime) {
-    let bell = count(rt.alloc()).expect(&rt, "memory");
+    let bell = bell(&rt);
     let semaphore = Arc::new(rt.alloc(), Semaphore::new(rt.alloc(), 5)).expect(&rt, "memory");
+    merge(&rt, &semaphore);
+    assert!(rt; has_free(&rt, &semaphore, 5));
     owns(&rt, &semaphore, &bell);
     forgetting(&rt, &semaphore, &bell);
 }
@@ -226,13 +219,6 @@ fn forgetting<R: Wait + Abort>(rt: &R, semaphore: &Arc<Semaphore<Bell>>, bell: &
 }
 
 // Owned permits are split and merged.
-#[test]
-fn owned_permits_merge(rt: HostRuntime) {
-    let semaphore = Arc::new(rt.alloc(), Semaphore::new(rt.alloc(), 3)).expect(&rt, "memory");
-    merge(&rt, &semaphore);
-    assert!(rt; has_free(&rt, &semaphore, 3));
-}
-
 fn merge<R: Wait + Abort>(rt: &R, semaphore: &Arc<Semaphore<Bell>>) {
     let mut permit = share(rt, semaphore)
         .try_acquire_owned(rt, 3)

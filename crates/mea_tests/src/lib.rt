@@ -1,21 +1,29 @@
-//! Tests of what stands in the crate `mea` itself, fair admission and the boxes, of mapped guards, of the oneshot channel, and of
-//! a reply by it, by public contracts alone: each call once, its answer and the wakers that it woke, and runs of several
+//! Tests of what stands in the crate `mea` itself, fair admission and the boxes, of the values that are computed once, and of the
+//! oneshot channel, by public contracts alone: each call once, its answer and the wakers that it woke, and runs of several
 //! threads. It has no code but tests.
 #![tactic(auto)]
 
 #[cfg(test)]
-mod actor;
-#[cfg(test)]
 mod admission;
+#[cfg(test)]
+mod box_threads;
 #[cfg(test)]
 mod boxes;
 #[cfg(test)]
-mod mapped;
+mod cell;
 #[cfg(test)]
-mod missing;
+mod claims;
+#[cfg(test)]
+mod flight;
+#[cfg(test)]
+mod group;
+#[cfg(test)]
+mod inits;
+#[cfg(test)]
+mod map;
+#[cfg(test)]
+mod once;
 #[cfg(test)]
 mod shot;
 #[cfg(test)]
 mod shot_threads;
-#[cfg(test)]
-mod threads;

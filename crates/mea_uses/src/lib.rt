@@ -7,6 +7,8 @@ mod boxes;
 #[cfg(test)]
 mod config;
 #[cfg(test)]
+mod connections;
+#[cfg(test)]
 mod first_use;
 #[cfg(test)]
 mod history;

@@ -1,10 +1,9 @@
 ghost use Rattle.std.specs.Prelude.{Some, refl};
 
-use mea::End;
-use mea::mutex::Mutex;
-use mea::rwlock::Mapped;
 use mea_lock_core::Part;
+use mea_sync::mutex::{Mapped, MappedMutexGuard, Mutex};
 use mea_test_support::Bell;
+use mea_wait::End;
 use std::sync::Wait;
 
 // What is inside an option.
@@ -12,7 +11,7 @@ use std::sync::Wait;
 struct Inside;
 
 impl<T> Part<Option<T>> for Inside {
-    ghost use Rattle.mea_tests.specs.Inside.{same_option};
+    ghost use Rattle.mea_sync_tests.specs.Inside.{same_option};
 
     type Out = T;
 
@@ -45,7 +44,6 @@ fn a_part_that_may_be_missing(rt: HostRuntime) {
     let mutex: Mutex<Option<Option<u64>>, Bell> = Mutex::new(rt.alloc(), None);
     assert!(rt; is_missing(&rt, &mutex));
     assert!(rt; is_missing_further(&rt, &mutex));
-    assert!(rt; is_written(&rt, &mutex));
     assert!(rt; mutex.into_inner() == Some(Some(Some(7))));
 }
 
@@ -69,18 +67,24 @@ fn is_missing<R: Wait>(rt: &R, mutex: &Nested) -> bool {
     }
 }
 
-// Whether nothing is inside what is inside; then a number is put there by the guard that came back.
+// Whether nothing is inside what is inside; then a number is put there by the guard that came back, shown and written.
 fn is_missing_further<R: Wait>(rt: &R, mutex: &Nested) -> bool {
     let Some(guard) = mutex.try_lock(rt) else {
         return false;
     };
-    let outer = match Mapped::filter_map(guard, Inside) {
-        Ok(outer) => outer,
+    match Mapped::filter_map(guard, Inside) {
+        Ok(outer) => is_put_inside(rt, outer),
         Err((guard, Inside)) => {
             guard.end(rt);
-            return false;
+            false
         }
-    };
+    }
+}
+
+// A guard of the option that is inside.
+type Outer<'a> = MappedMutexGuard<'a, Option<Option<u64>>, Inside, Bell>;
+
+fn is_put_inside<R: Wait>(rt: &R, outer: Outer<'_>) -> bool {
     match Mapped::filter_map_further(outer, Inside) {
         Ok(inner) => {
             inner.end(rt);
@@ -88,24 +92,13 @@ fn is_missing_further<R: Wait>(rt: &R, mutex: &Nested) -> bool {
         }
         Err((mut outer, Inside)) => {
             *outer = Some(3);
-            outer.end(rt);
-            true
+            is_written(rt, outer)
         }
     }
 }
 
 // Whether the number is shown, which is then written.
-fn is_written<R: Wait>(rt: &R, mutex: &Nested) -> bool {
-    let Some(guard) = mutex.try_lock(rt) else {
-        return false;
-    };
-    let outer = match Mapped::filter_map(guard, Inside) {
-        Ok(outer) => outer,
-        Err((guard, Inside)) => {
-            guard.end(rt);
-            return false;
-        }
-    };
+fn is_written<R: Wait>(rt: &R, outer: Outer<'_>) -> bool {
     match Mapped::filter_map_further(outer, Inside) {
         Ok(mut inner) => {
             let shown = *inner;

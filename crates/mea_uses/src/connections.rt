@@ -1,8 +1,8 @@
 use futures::Future;
 use futures::future::ready;
+use mea::End;
 use mea_futures::{Bell, block_before};
 use mea_shared_pool::{Closed, Lease, Pool};
-use mea_wait::End;
 use std::alloc::AllocGlobal;
 use std::process::Abort;
 use std::random::RandomSource;

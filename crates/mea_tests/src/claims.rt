@@ -1,20 +1,29 @@
 //! Polls of waits for a claim, which hand out what they came to.
+//!
+//! The tests hand such waits to functions that are generic in them: there a wait is one bound, where the proof builds the whole of a
+//! type that is known at each call.
 ghost use Rattle.std.specs.Prelude.{IfSome};
 
 use mea_keep::{Claim, Claimed};
-use mea_test_support::{Bell, Count, PollOutcome, gives, poll};
+use mea_test_support::{Bell, Count, PollOutcome, count, gives, poll};
 use mea_wait::{End, Waits};
+use std::process::Abort;
 use std::sync::Wait;
 
-/// The turn that a wait gives; what it gives instead is dropped.
+/// A count of no wakes.
+pub(crate) fn bell(rt: &(impl Abort + AllocGlobal)) -> Count {
+    count(rt.alloc()).expect(rt, "memory")
+}
+
+/// The turn that a wait gives, if there is one; what it gives instead is dropped.
 pub(crate) fn mine<R: Wait, F: Waits<Bell, Claimed<V, C>>, V: Drop, C: End>(
     rt: &R,
-    wait: F,
+    wait: Option<F>,
     count: &Count,
 ) -> Option<C>
-    requires { F.can_poll wait }
+    requires { IfSome wait F.can_poll }
 {
-    match gives(rt, Some(wait), count)? {
+    match gives(rt, wait, count)? {
         Claimed::Mine(claim) => Some(claim),
         Claimed::There(_) => None,
     }
@@ -58,11 +67,11 @@ pub(crate) fn there<R: Wait, F: Waits<Bell, Claimed<V, C>>, V, C: End>(
 }
 
 /// What who has the turn gets for the value that it gives; a wait that comes back for want of memory is ended.
-pub(crate) fn gave<R: Wait, C: Claim<u64, u64, G>, G: End>(
+pub(crate) fn gave<R: Wait, T: Drop, V, C: Claim<T, V, G>, G: End>(
     rt: &R,
     claim: Option<C>,
-    value: u64,
-) -> Option<u64> {
+    value: T,
+) -> Option<V> {
     match claim?.finish(rt, value) {
         Ok(value) => Some(value),
         Err(kept) => {

@@ -1,11 +1,13 @@
 ghost use Rattle.std.specs.Prelude.{Some, None, refl};
 
-use mea::mutex::Mutex;
-use mea::rwlock::{Mapped, MappedRwLockReadGuard, MappedRwLockWriteGuard, RwLock};
-use mea::{End, Shows};
+use crate::guards::shows;
 use mea_lock_core::Part;
+use mea_sync::Shows;
+use mea_sync::mutex::Mutex;
+use mea_sync::rwlock::{Mapped, MappedRwLockReadGuard, MappedRwLockWriteGuard, RwLock};
 use mea_test_support::{Bell, end, found};
-use std::ops::{Deref, DerefMut};
+use mea_wait::End;
+use std::ops::DerefMut;
 use std::process::Abort;
 use std::sync::Wait;
 
@@ -16,7 +18,7 @@ type Pair = (u64, u64);
 struct First;
 
 impl Part<Pair> for First {
-    ghost use Rattle.mea_tests.specs.First.{same_value};
+    ghost use Rattle.mea_sync_tests.specs.First.{same_value};
 
     type Out = u64;
 
@@ -46,14 +48,6 @@ impl Part<Pair> for First {
 // A guard, if there is one, that shows the first.
 fn first_of<G: Shows<Pair>>(guard: Option<G>) -> Option<Mapped<Pair, G, First>> {
     Some(Mapped::map(guard?, First))
-}
-
-// What a guard shows, which is ended.
-fn shows<R: Wait, G: End + Deref<Target = u64>>(rt: &R, guard: Option<G>) -> Option<u64> {
-    let guard = guard?;
-    let value = *guard;
-    guard.end(rt);
-    Some(value)
 }
 
 // What a guard has shown that writes this value, and is ended.
@@ -88,7 +82,7 @@ fn is_read<R: Wait>(rt: &R, lock: &RwLock<Pair, Bell>) -> bool {
     end(rt, found(lock.try_read(rt)))
 }
 
-// Mapped guards of a write and of a read.
+// Mapped guards of a write and of a read. A mapped write becomes a read of the same part, and no other write is let in.
 #[test]
 fn a_part_of_a_lock(rt: HostRuntime) {
     let mut lock = RwLock::new(rt.alloc(), (1, 2));
@@ -104,34 +98,27 @@ fn a_part_of_a_lock(rt: HostRuntime) {
 fn part_of_a_lock<R: Wait + Abort>(rt: &R, lock: &RwLock<Pair, Bell>) {
     let first = first_of(lock.try_write(rt));
     assert!(rt; !is_read(rt, lock));
-    assert!(rt; swaps(rt, first, 5) == Some(1));
+    let read = becomes_read(rt, first, 1, 5);
+    assert!(rt; is_read(rt, lock));
+    assert!(rt; !end(rt, lock.try_write(rt)));
+    assert!(rt; shows(rt, read) == Some(5));
     let first = first_of(found(lock.try_read(rt)));
     assert!(rt; is_read(rt, lock));
     assert!(rt; shows(rt, first) == Some(5));
 }
 
-// A mapped write becomes a read of the same part, and no other write is let in.
-#[test]
-fn a_mapped_write_becomes_a_read(rt: HostRuntime) {
-    let lock = RwLock::new(rt.alloc(), (1, 2));
-    mapped_write_becomes_a_read(&rt, &lock);
-    assert!(rt; lock.into_inner() == Some((5, 2)));
-}
-
-fn mapped_write_becomes_a_read<R: Wait + Abort>(rt: &R, lock: &RwLock<Pair, Bell>) {
-    let read = becomes_read(rt, first_of(lock.try_write(rt)), 5);
-    assert!(rt; is_read(rt, lock));
-    assert!(rt; !end(rt, lock.try_write(rt)));
-    assert!(rt; shows(rt, read) == Some(5));
-}
-
-// Writes, and goes on as a read.
+// Writes over what is shown, and goes on as a read.
 fn becomes_read<'a, R: Wait>(
     rt: &R,
     first: Option<MappedRwLockWriteGuard<'a, Pair, First, Bell>>,
+    before: u64,
     value: u64,
 ) -> Option<MappedRwLockReadGuard<'a, Pair, First, Bell>> {
     let mut first = first?;
+    if *first != before {
+        first.end(rt);
+        return None;
+    }
     *first = value;
     match first.downgrade(rt) {
         Ok(read) => Some(read),

@@ -1,9 +1,10 @@
+use crate::claims::bell;
+use crate::group::Flights;
 use mea_base::Poll;
-use mea_keep::singleflight::Group;
 use mea_keep::{Init, Never};
-use mea_test_support::{Bell, Count, PollOutcome, count, poll, polled_for};
+use mea_test_support::{Bell, Count, PollOutcome, poll, polled_for};
+use mea_wait::Waits;
 use std::alloc::{AllocError, Global};
-use std::hash::{BuildHasherDefault, FoldHasher};
 use std::sync::Wait;
 use std::sync::atomic::AtomicU64;
 use std::sync::atomic::Ordering::SeqCst;
@@ -31,9 +32,7 @@ impl<'a> Init<u64, Never, Bell> for Gathers<'a> {
     }
 }
 
-type Flights = Group<u64, u64, BuildHasherDefault<FoldHasher>, Bell>;
-
-// One caller: its first poll counts it among those that wait.
+// One caller of the group.
 fn works<R: Wait>(
     rt: &R,
     group: &Flights,
@@ -46,7 +45,19 @@ fn works<R: Wait>(
         all: 16,
         runs,
     };
-    let told = poll(rt, group.work(1, init), bell);
+    waits(rt, group.work(1, init), waiting, bell)
+}
+
+// What a wait gives whose first poll counts it among those that wait.
+fn waits<R: Wait, F: Waits<Bell, u64>>(
+    rt: &R,
+    wait: F,
+    waiting: &AtomicU64,
+    bell: &Count,
+) -> Option<u64>
+    requires { F.can_poll wait }
+{
+    let told = poll(rt, wait, bell);
     waiting.fetch_add(1, SeqCst);
     match told {
         PollOutcome::Ready(value) => Some(value),
@@ -67,7 +78,7 @@ fn no_answers(alloc: Global, many: u64) -> Result<Vec<Option<u64>>, AllocError> 
 // Sixteen threads ask for one key: its initialiser runs once, and each has the value.
 #[test]
 fn a_single_flight(rt: HostRuntime) {
-    let bell = count(rt.alloc()).expect(&rt, "memory");
+    let bell = bell(&rt);
     let group = Flights::new(rt.alloc());
     let (waiting, runs) = (AtomicU64::new(0), AtomicU64::new(0));
     let mut answers = no_answers(rt.alloc(), 16).expect(&rt, "memory");

@@ -1,0 +1,44 @@
+use crate::claims::{bell, mine};
+use crate::inits::{Fails, Gives};
+use mea_keep::Claimed;
+use mea_keep::singleflight::Group;
+use mea_test_support::{Bell, Count, end, gives};
+use mea_wait::{End, Waits};
+use std::hash::{BuildHasherDefault, FoldHasher};
+use std::process::Abort;
+use std::sync::Wait;
+
+/// A group of numbers by number.
+pub(crate) type Flights = Group<u64, u64, BuildHasherDefault<FoldHasher>, Bell>;
+
+// What the group gives under key 5 to who computes this value.
+fn worked<R: Wait>(rt: &R, group: &Flights, value: u64, bell: &Count) -> Option<u64> {
+    gives(rt, Some(group.work(5, Gives(value))), bell)
+}
+
+// A key that is forgotten is computed anew beside the call that runs, and so does the next call compute anew. An initialiser may
+// have an error.
+#[test]
+fn a_key_is_forgotten(rt: HostRuntime) {
+    let one = bell(&rt);
+    let two = bell(&rt);
+    let group = Flights::new(rt.alloc());
+    is_forgotten(&rt, &group, group.claim(5), &one, &two);
+    assert!(rt; gives(&rt, Some(group.try_work(5, Fails)), &one) == Some(Err(4)));
+}
+
+fn is_forgotten<R: Wait + Abort, F: Waits<Bell, Claimed<u64, C>>, C: End>(
+    rt: &R,
+    group: &Flights,
+    caller: F,
+    one: &Count,
+    two: &Count,
+)
+    requires { F.can_poll caller }
+{
+    let first = mine(rt, Some(caller), one);
+    group.forget(rt, &5);
+    assert!(rt; worked(rt, group, 51, two) == Some(51));
+    assert!(rt; worked(rt, group, 52, two) == Some(52));
+    assert!(rt; end(rt, first));
+}
