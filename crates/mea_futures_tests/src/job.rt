@@ -1,16 +1,15 @@
-ghost use Rattle.std.specs.Prelude.{◌≡◌, None, IsSome, IfNone};
+ghost use Rattle.std.specs.Prelude.{◌≡◌, None, IfNone};
 
-use crate::polls::granted;
-use crate::waits::holding;
+use crate::polls::{Answer, granted};
 use futures::task::{Context, Poll};
 use futures::{Future, ready};
-use mea_futures::{Acquiring, Bell, Kept};
-use mea_sync::semaphore::{OwnedAcquire, OwnedSemaphorePermit, Semaphore};
+use mea_futures::Bell;
+use mea_sync::semaphore::{Closed, OwnedAcquire, Semaphore};
 use std::alloc::AllocGlobal;
 use std::process::Abort;
+use std::sync::Arc;
 use std::sync::atomic::AtomicU64;
 use std::sync::atomic::Ordering::SeqCst;
-use std::sync::{Arc, Wait};
 
 /// What jobs did.
 #[derive(Drop)]
@@ -74,29 +73,29 @@ pub fn acquire<R: Abort>(
 
 /// A task: it acquires, yields with the permit, and gives it back where it drops what it kept.
 #[derive(Drop)]
-pub struct Job<'a, R: Wait> {
+pub struct Job<'a, A, P> {
     seen: &'a Seen,
-    acquire: Acquiring<'a, R>,
-    held: Option<Kept<'a, R, OwnedSemaphorePermit<Bell>>>,
+    acquire: A,
+    held: Option<P>,
 }
 
-impl<'a, R: Wait + AllocGlobal + Abort> Job<'a, R> {
-    /// One that was never polled.
-    pub fn new(rt: &'a R, seen: &'a Seen, semaphore: &Arc<Semaphore<Bell>>) -> Self
-        ensures { (result.held ≡ None) × IsSome result.acquire.waiting.wait }
+impl<'a, A, P> Job<'a, A, P> {
+    /// One that was never polled, with a wait for its permit.
+    pub fn new(seen: &'a Seen, acquire: A) -> Self
+        ensures { (result.held ≡ None) × (result.acquire ≡ acquire) }
     {
         Job {
             seen,
-            acquire: holding(rt, acquire(rt, semaphore, 1)),
+            acquire,
             held: None,
         }
     }
 }
 
-impl<'a, R: Wait> Future for Job<'a, R> {
+impl<'a, P: Drop, A: Future<Output = Answer<P, Closed>>> Future for Job<'a, A, P> {
     type Output = ();
 
-    ghost can_poll = { λ j. IfNone j.held (IsSome j.acquire.waiting.wait) };
+    ghost can_poll = { λ j. IfNone j.held (A.can_poll j.acquire) };
 
     fn poll(&mut self, cx: &mut Context<'_>) -> Poll<()> {
         self.seen.polls.fetch_add(1, SeqCst);

@@ -1,8 +1,9 @@
-use crate::job::{Job, Seen, shared};
+use crate::job::{Job, Seen, acquire, shared};
+use crate::waits::holding;
 use futures::Future;
 use futures::executor::LocalPool;
-use mea_futures::Bell;
-use mea_sync::semaphore::Semaphore;
+use mea_futures::{Acquiring, Bell, Kept};
+use mea_sync::semaphore::{OwnedSemaphorePermit, Semaphore};
 use std::alloc::AllocGlobal;
 use std::process::Abort;
 use std::random::RandomSource;
@@ -23,9 +24,13 @@ struct Jobs<'a, R: Wait> {
     seen: &'a Seen,
 }
 
-impl<'a, R: Wait + AllocGlobal + Abort> Makes<Job<'a, R>> for Jobs<'a, R> {
-    fn make(&self) -> Job<'a, R> {
-        Job::new(self.rt, self.seen, self.semaphore)
+// A job that holds its permit in what is ended where it is dropped.
+type OwnedJob<'a, R> = Job<'a, Acquiring<'a, R>, Kept<'a, R, OwnedSemaphorePermit<Bell>>>;
+
+impl<'a, R: Wait + AllocGlobal + Abort> Makes<OwnedJob<'a, R>> for Jobs<'a, R> {
+    fn make(&self) -> OwnedJob<'a, R> {
+        let wait = acquire(self.rt, self.semaphore, 1);
+        Job::new(self.seen, holding(self.rt, wait))
     }
 }
 
