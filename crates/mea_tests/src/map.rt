@@ -3,9 +3,9 @@ use crate::inits::{Fails, Gives};
 use mea_base::Poll;
 use mea_keep::once::OnceMap;
 use mea_keep::{Claim, Claimed, Init, Never};
-use mea_test_support::{Bell, Collides, Count, found, gives, rung};
+use mea_test_support::{Bell, Count, found, gives, rung};
 use mea_wait::{End, Waits};
-use std::hash::BuildHasher;
+use std::hash::{BuildHasher, BuildHasherDefault, FoldHasher};
 use std::process::Abort;
 use std::sync::Wait;
 
@@ -106,12 +106,13 @@ impl<'a, R: Wait, S: BuildHasher + Drop> Init<u64, Never, Bell> for Asks<'a, R, 
     }
 }
 
-// A map is made of pairs: the last of a key stands, and a key that none has is computed. Its hasher is one's own.
+// A map is made of pairs: the last of a key stands, and a key that none has is computed.
 #[test]
 fn a_map_is_made_of_pairs(rt: HostRuntime) {
     let bell = bell(&rt);
     let pairs = vec![in rt.alloc(); (5u64, 50u64), (6, 60), (5, 51)].expect(&rt, "memory");
-    let map = OnceMap::from_pairs(rt.alloc(), pairs, Collides).expect(&rt, "memory");
+    let hasher: BuildHasherDefault<FoldHasher> = BuildHasherDefault::new();
+    let map = OnceMap::from_pairs(rt.alloc(), pairs, hasher).expect(&rt, "memory");
     has_the_last(&rt, &map, &bell);
 }
 
