@@ -1,7 +1,6 @@
 //! A thread that waits again and again by one executor and one bell.
 use futures::future::{pending, ready};
 use mea_futures::{Bell, Blocker};
-use mea_link::latch::Latch;
 use mea_sync::semaphore::Semaphore;
 use mea_wait::{End, Waits};
 use std::process::Abort;
@@ -65,41 +64,39 @@ fn a_wait_that_was_given_up_is_made_again(rt: HostRuntime) {
     waits_again(&rt, &mut blocker, &semaphore, while_held, while_free);
 }
 
-// Whether waits for both latches, one after the other, came to their ends.
+// Whether waits for a permit of each, one after the other, came to their ends.
 fn passes<R: Wait + RandomSource + AllocGlobal>(
     rt: &R,
-    one: &Latch<Bell>,
-    two: &Latch<Bell>,
+    one: &Semaphore<Bell>,
+    two: &Semaphore<Bell>,
 ) -> bool {
     let Ok(mut blocker) = Blocker::new(rt) else {
         return false;
     };
-    blocker.block(rt, one.wait()).is_ok() && blocker.block(rt, two.wait()).is_ok()
+    matches!(blocker.block(rt, one.acquire_and_forget(1)), Ok(Ok(())))
+        && matches!(blocker.block(rt, two.acquire_and_forget(1)), Ok(Ok(())))
 }
 
-// Whether it passes latches that another thread opens.
+// Whether it passes where another thread adds the permits.
 fn is_woken<R: Wait + Threads + Sync + RandomSource + AllocGlobal>(
     rt: &R,
-    one: &Latch<Bell>,
-    two: &Latch<Bell>,
+    one: &Semaphore<Bell>,
+    two: &Semaphore<Bell>,
 ) -> bool {
-    let (passed, ()) = thread::join(
+    let (passed, added) = thread::join(
         rt,
         || passes(rt, one, two),
-        || {
-            one.count_down(rt);
-            two.count_down(rt);
-        },
+        || one.release(rt, 1).is_ok() && two.release(rt, 1).is_ok(),
     );
-    passed
+    passed && added
 }
 
 // Another thread wakes it each time.
 #[test]
 fn it_is_woken_each_time(rt: HostRuntime) {
     for _ in 0..20u32 {
-        let one = Latch::new(rt.alloc(), 1);
-        let two = Latch::new(rt.alloc(), 1);
+        let one = Semaphore::new(rt.alloc(), 0);
+        let two = Semaphore::new(rt.alloc(), 0);
         assert!(rt; is_woken(&rt, &one, &two));
     }
 }

@@ -5,8 +5,8 @@ use futures::Future;
 use futures::future::{Either, Pending, Select, pending, ready, select};
 use futures::task::{Context, Poll};
 use futures::test::MockTask;
-use mea_futures::{Bell, TakeError, block, block_before, take, take_before, wait};
-use mea_link::latch::Latch;
+use mea_futures::{Bell, Kept, TakeError, block, block_before, take, take_before, wait};
+use mea_link::shutdown::{ShutdownSend, new_pair};
 use mea_sync::mutex::Mutex;
 use mea_sync::semaphore::Semaphore;
 use mea_wait::{End, PollFault, Polled, Unpolled, Waits};
@@ -15,7 +15,7 @@ use std::io;
 use std::ops::DerefMut;
 use std::process::Abort;
 use std::random::RandomSource;
-use std::sync::{Arc, Wait};
+use std::sync::Wait;
 
 // Permits are taken by a thread that waits, and not past a deadline or a close.
 #[test]
@@ -196,27 +196,28 @@ impl<F: Future<Output = Result<(), PollFault>>> Future for Until<F> {
 // A wait goes from select to select, and the task still hears of it: two jobs are done, and a third never ends.
 #[test]
 fn a_wait_is_kept_from_select_to_select(rt: HostRuntime) {
-    let latch = Arc::new(rt.alloc(), Latch::new(rt.alloc(), 1)).expect(&rt, "memory");
-    let opening = Arc::try_clone(&latch).expect(&rt, "memory").wait_owned();
-    is_kept(&rt, &*latch, opening);
+    let (stopper, stopped) = new_pair(rt.alloc()).expect(&rt, "memory");
+    let (stopper, stopped) = (Kept::new(&rt, stopper), Kept::new(&rt, stopped));
+    let signal = stopped.get().is_shutdown_owned().expect(&rt, "memory");
+    is_kept(&rt, stopper.get(), signal);
 }
 
 fn is_kept<R: Wait + RandomSource + AllocGlobal + Abort, F: Waits<Bell, ()>>(
     rt: &R,
-    latch: &Latch<Bell>,
-    opening: F,
+    stopper: &ShutdownSend<Bell>,
+    signal: F,
 )
-    requires { F.can_poll opening }
+    requires { F.can_poll signal }
 {
-    let opening = wait(rt, rt.alloc(), opening).expect(rt, "memory");
+    let signal = wait(rt, rt.alloc(), signal).expect(rt, "memory");
     let task = MockTask::new(rt).expect(rt, "memory");
-    goes_on(rt, &task, latch, Until::new(opening));
+    goes_on(rt, &task, stopper, Until::new(signal));
 }
 
 fn goes_on<R: Wait + Abort, F: Future<Output = u64>>(
     rt: &R,
     task: &MockTask,
-    latch: &Latch<Bell>,
+    stopper: &ShutdownSend<Bell>,
     mut until: F,
 )
     requires { F.can_poll until }
@@ -224,6 +225,6 @@ fn goes_on<R: Wait + Abort, F: Future<Output = u64>>(
     assert!(rt; rests(task, &mut until) && rests(task, &mut until));
     assert!(rt; rests(task, &mut until) && rests(task, &mut until));
     assert!(rt; rests(task, &mut until) && !task.is_woken());
-    latch.count_down(rt);
+    stopper.shutdown(rt);
     assert!(rt; task.is_woken() && matches!(task.poll(&mut until), Poll::Ready(2)));
 }
