@@ -12,7 +12,7 @@ import sys
 
 TOP = os.path.join(os.path.dirname(os.path.abspath(__file__)), "..")
 PAGES = {
-    "docs/USING.md": ["crates/mea_uses"],
+    "docs/USING.md": ["crates/mea_uses", "crates/mea_recorded_tests"],
     "docs/EXECUTORS.md": ["crates/mea_uses", "crates/mea_futures_tests"],
     "crates/mea/CALLING.md": ["crates/mea_uses"],
     "crates/mea_futures/CALLING.md": ["crates/mea_uses"],

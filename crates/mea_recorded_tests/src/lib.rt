@@ -1,9 +1,11 @@
 //! Tests of the semaphore that keeps its history and of the crew over it, and of semaphores whose permits are counted across
-//! threads, by public contracts alone. It has no code but tests.
+//! threads, by public contracts alone, with the program of docs/USING.md that draws a history. It has no code but tests.
 #![tactic(auto)]
 
 #[cfg(test)]
 mod crew;
+#[cfg(test)]
+mod history;
 #[cfg(test)]
 mod meeting;
 #[cfg(test)]

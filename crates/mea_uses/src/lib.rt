@@ -11,8 +11,6 @@ mod connections;
 #[cfg(test)]
 mod first_use;
 #[cfg(test)]
-mod history;
-#[cfg(test)]
 mod hub;
 #[cfg(test)]
 mod mailbox;
