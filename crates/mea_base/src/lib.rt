@@ -6,16 +6,17 @@ mod links;
 mod no_memory;
 mod outbox;
 mod overflow;
+mod poll;
 mod ready;
 mod steps;
 mod turn;
 mod wait_list;
 mod wake;
 
-pub use futures::task::Poll;
 pub use no_memory::NoMemory;
 pub use outbox::Outbox;
 pub use overflow::Overflow;
+pub use poll::Poll;
 pub use ready::Ready;
 pub use steps::Steps;
 pub use turn::Turn;

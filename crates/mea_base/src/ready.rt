@@ -5,8 +5,8 @@ use crate::outbox::Outbox;
 use std::alloc::Global;
 use std::marker::Model;
 
-/// The wakers that a hall has made ready, in the order in which it made them so, with room for each that
-/// is registered in the hall.
+/// The wakers that were made ready, in the order in which they became so, with room for each that is registered in the
+/// families to which the list is lent.
 #[derive(Drop)]
 pub struct Ready<W> {
     outbox: Outbox<W>,

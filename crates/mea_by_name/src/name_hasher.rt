@@ -18,7 +18,9 @@ pub struct NameHasher {
 
 impl NameHasher {
     /// One that has read nothing. It takes no memory.
-    pub fn new() -> NameHasher {
+    pub fn new() -> NameHasher
+        ensures { result.name ≡ 0 }
+    {
         NameHasher { name: 0 }
     }
 }

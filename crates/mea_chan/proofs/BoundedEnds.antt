@@ -31,7 +31,7 @@ use Rattle.mea_sem_core.specs.declared.acquire.Acquire.{Acquire}
 use Rattle.mea_sem_core.specs.Acquire.{demand_of}
 use Rattle.mea_cores_by_name.proofs.Linking.{IsUnqueued, linked_begun}
 use Rattle.mea_chan_core.specs.Channel.{no_senders}
-use Rattle.futures.specs.declared.task.Poll.TheVariants.{Ready, Pending}
+use Rattle.mea_base.specs.declared.poll.Poll.TheVariants.{Ready, Pending}
 use Rattle.mea_chan_core.specs.declared.errors.SendError.{SendError}
 use Rattle.mea_chan_core.specs.declared.errors.TrySendError.TheVariants.{Full, Disconnected}
 use Rattle.mea_chan_core.specs.declared.errors.TryRecvError.TheVariants as try

@@ -2,7 +2,7 @@
 use Rattle.std.proofs.Common.{◌≡◌, ◌≢◌, ℕ, ◌+◌, ◌-◌, ◌≤◌, ◌==◌, ◌++◌, ◌⊎◌, inl, inr, Bool, true, false, length, List, [], ◌∷◌, map, cond, Option, Some, None, is_some, option_to_list, Result, Ok, Err, refl, ap, sym, subst, ◌∙◌, arith, if◌then◌else◌}
 use Rattle.std.specs.FinMap.{get, insert, remove}
 use Rattle.std.proofs.lemmas.List.{length-append}
-use Rattle.futures.specs.declared.task.Poll.{Poll}
+use Rattle.mea_base.specs.declared.poll.Poll.{Poll}
 use Rattle.mea_base.specs.Queue.{lacks, waiting_after}
 use Rattle.std.specs.Ordering.{nat_cmp}
 use Rattle.std.specs.FinMap.{FinMap}

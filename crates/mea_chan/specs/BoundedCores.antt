@@ -1,7 +1,7 @@
 -- what a hall keeps of bounded channels, and what the calls of their cores do
 use Rattle.std.specs.Prelude.{ℕ, ◌≡◌, ◌+◌, ◌++◌, [], length, map, Option, Some, option_to_list, Result, Ok, Err}
 use Rattle.std.specs.Option.{option_map}
-use Rattle.futures.specs.declared.task.Poll.{Poll}
+use Rattle.mea_base.specs.declared.poll.Poll.{Poll}
 use Rattle.mea_base.specs.Ready.{Waking}
 use Rattle.mea_by_name.specs.declared.named_waker.NamedWaker.{NamedWaker}
 use Rattle.mea_sem_core.specs.Acquire.{demand_of}

@@ -30,6 +30,7 @@ pub struct BoundedPart {
     senders: ByName<SenderEntry>,
     receivers: ByName<ReceiverEntry>,
     sends: ByName<SendEntry>,
+    // The least number that the next event may have, which may be 2^64.
     next: u128,
     alloc: Global,
 }
@@ -193,6 +194,7 @@ impl BoundedPart {
         requires new { core ≡ record { queued = []; capacity = capacity; senders = 1; ended = false; waker = None; waiting = no_senders; wakes = [] } }
         ensures { BoundedActs self.old number (MakeRoom capacity) result self.new ready.old ready.new }
     {
+        // That the registered wakers have a number that fits is known by a look at it.
         let _registered = ready.registered();
         let sender = SenderEntry {
             channel: number,
@@ -223,6 +225,7 @@ impl BoundedPart {
         requires next { self.old.next ≤ number }
         ensures { BoundedActs self.old number (CopySender s) result self.new ready.old ready.new }
     {
+        // That the registered wakers have a number that fits is known by a look at it.
         let _registered = ready.registered();
         if let Some(stop) = self.cause_of_copy(s) {
             return Err(stop);
@@ -270,6 +273,7 @@ impl BoundedPart {
         requires next { self.old.next ≤ number }
         ensures { BoundedActs self.old number (BeginSend s message) result self.new ready.old ready.new }
     {
+        // That the registered wakers have a number that fits is known by a look at it.
         let _registered = ready.registered();
         let Some(sender) = self.senders.get_mut(s) else {
             return Err(Stop::Unknown);

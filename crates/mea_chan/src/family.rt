@@ -42,10 +42,12 @@ pub type ChanHall = FamilyHall<ChanFamily, ChanModel>;
 /// Many channels with their senders and receivers, and many boxes, each by the number of the event that
 /// made it.
 ///
-/// Each channel and each box is a core of its own. Each event costs a look-up by name and the wakers that it makes ready.
+/// Each channel and each box is a core of its own. Each event costs a few look-ups by name and the wakers that it makes
+/// ready.
 #[derive(Drop)]
 pub struct ChanFamily {
     kinds: Kinds,
+    // The least number that the next event may have, which may be 2^64.
     next: u128,
 }
 

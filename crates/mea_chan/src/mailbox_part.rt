@@ -16,13 +16,14 @@ use std::alloc::Global;
 use std::marker::Model;
 
 /// The channels of one kind with their senders and receivers, each by the number of the event that made it. Each call
-/// costs a look-up by name and the wakers that it makes ready.
+/// costs a few look-ups by name and the wakers that it makes ready.
 #[derive(Drop)]
 pub struct MailboxPart<C: MailboxCore> {
     channels: ByName<ChannelEntry<C>>,
     // The channel of each sender.
     senders: ByName<u64>,
     receivers: ByName<ReceiverEntry>,
+    // The least number that the next event may have, which may be 2^64.
     next: u128,
     alloc: Global,
 }

@@ -23,7 +23,7 @@ use std::alloc::Global;
 use std::marker::Model;
 
 /// The broadcast channels with their senders, receivers and futures, each by the number of the event that made it. Each
-/// call costs a look-up by name and the wakers that it makes ready.
+/// call costs a few look-ups by name and the wakers that it makes ready.
 #[derive(Drop)]
 pub struct BroadcastPart {
     channels: ByName<BroadcastEntry>,
@@ -31,6 +31,7 @@ pub struct BroadcastPart {
     senders: ByName<u64>,
     receivers: ByName<ListenerEntry>,
     futures: ByName<RecvEntry>,
+    // The least number that the next event may have, which may be 2^64.
     next: u128,
     alloc: Global,
 }

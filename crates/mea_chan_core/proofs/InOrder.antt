@@ -1,8 +1,8 @@
 -- each call moves messages from the accepted through the queue to the received, or drops the queue
 use Rattle.std.proofs.Common.{◌≡◌, ℕ, ◌+◌, ◌-◌, ◌==◌, ◌++◌, Bool, true, false, cond, not, List, [], ◌∷◌, Option, Some, None, Result, Ok, Err, MatchResult, length, option_to_list, refl, ap, sym, subst, ◌∙◌, ◌≤◌, arith, append-nil, append_assoc}
 use Rattle.std.specs.FinMap as map
-use Rattle.futures.specs.declared.task.Poll.{Poll}
-use Rattle.futures.specs.declared.task.Poll.TheVariants.{Ready, Pending}
+use Rattle.mea_base.specs.declared.poll.Poll.{Poll}
+use Rattle.mea_base.specs.declared.poll.Poll.TheVariants.{Ready, Pending}
 use Rattle.mea_base.specs.declared.no_memory.NoMemory.{NoMemory}
 use Rattle.mea_sem_core.specs.declared.acquire.Acquire.{Acquire}
 use Rattle.mea_sem_core.specs.declared.acquire.Acquire.TheVariants as acquires

@@ -1,7 +1,7 @@
 -- a poll of a send, by what `try_send` answers in it
 use Rattle.std.proofs.Common.{◌≡◌, ℕ, Bool, true, false, cond, Option, Some, None, Result, Ok, Err, IsOk, length, option_to_list, refl, ap, ◌≤◌, arith}
 use Rattle.std.specs.FinMap as map
-use Rattle.futures.specs.declared.task.Poll.TheVariants.{Ready, Pending}
+use Rattle.mea_base.specs.declared.poll.Poll.TheVariants.{Ready, Pending}
 use Rattle.mea_base.specs.declared.no_memory.NoMemory.{NoMemory}
 use Rattle.mea_sem_core.specs.Calls.{with_waker}
 use Rattle.mea_sem_core.specs.declared.acquire.Acquire.{Acquire}

@@ -1,7 +1,7 @@
 -- what has happened on a channel, whatever was called in whatever order
 use Rattle.std.specs.Prelude.{◌≡◌, ◌+◌, ◌++◌, true, false, List, [], ◌∷◌, Option, Some, None, option_to_list, Result, Ok, Err}
-use Rattle.futures.specs.declared.task.Poll.{Poll}
-use Rattle.futures.specs.declared.task.Poll.TheVariants.{Ready, Pending}
+use Rattle.mea_base.specs.declared.poll.Poll.{Poll}
+use Rattle.mea_base.specs.declared.poll.Poll.TheVariants.{Ready, Pending}
 use Rattle.mea_base.specs.declared.no_memory.NoMemory.{NoMemory}
 use Rattle.mea_sem_core.specs.declared.acquire.Acquire.{Acquire}
 use Rattle.mea_chan_core.specs.declared.errors.SendError.{SendError}

@@ -1,7 +1,7 @@
 -- an unbounded channel, and what its calls do
 use Rattle.std.specs.Prelude.{ℕ, ◌≡◌, ◌-◌, ◌==◌, ◌++◌, Bool, true, List, [], ◌∷◌, Option, Some, None, option_to_list, Result, Ok, Err, MatchResult, if◌then◌else◌}
-use Rattle.futures.specs.declared.task.Poll.{Poll}
-use Rattle.futures.specs.declared.task.Poll.TheVariants.{Ready, Pending}
+use Rattle.mea_base.specs.declared.poll.Poll.{Poll}
+use Rattle.mea_base.specs.declared.poll.Poll.TheVariants.{Ready, Pending}
 use Rattle.mea_base.specs.declared.no_memory.NoMemory.{NoMemory}
 use Rattle.mea_chan_core.specs.declared.errors.RecvError.{RecvError}
 use Rattle.mea_chan_core.specs.declared.errors.RecvError.TheVariants as recv

@@ -1,7 +1,7 @@
 -- a channel for one message, and what its calls do
 use Rattle.std.specs.Prelude.{Bool, true, false, Option, Some, None, Result, Ok, Err, if◌then◌else◌}
-use Rattle.futures.specs.declared.task.Poll.{Poll}
-use Rattle.futures.specs.declared.task.Poll.TheVariants.{Ready, Pending}
+use Rattle.mea_base.specs.declared.poll.Poll.{Poll}
+use Rattle.mea_base.specs.declared.poll.Poll.TheVariants.{Ready, Pending}
 use Rattle.mea_chan_core.specs.declared.errors.RecvError.{RecvError}
 use Rattle.mea_chan_core.specs.declared.errors.RecvError.TheVariants as recv
 use Rattle.mea_chan_core.specs.declared.errors.SendError.{SendError}

@@ -1,7 +1,7 @@
 -- which sends are pending on a bounded channel, with which wakers they were last polled, and what was woken since
 use Rattle.std.specs.Prelude.{ℕ, ◌≡◌, ◌+◌, ◌-◌, ◌≤◌, ◌==◌, ◌++◌, Bool, true, false, List, [], length, min, Option, Some, None, Result, Ok, Contains, if◌then◌else◌}
 use Rattle.std.specs.FinMap as map
-use Rattle.futures.specs.declared.task.Poll.TheVariants.{Ready, Pending}
+use Rattle.mea_base.specs.declared.poll.Poll.TheVariants.{Ready, Pending}
 use Rattle.mea_sem_core.specs.Acquire.{demand_of}
 use Rattle.mea_sem_core.specs.Core.{IsSound}
 use Rattle.mea_sem_core.specs.Calls.{Belongs}

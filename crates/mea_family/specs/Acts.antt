@@ -7,7 +7,7 @@ use Rattle.mea_family.specs.declared.stop.Stop.TheVariants as stops
 use Rattle.mea_family.specs.Family.{Outcome}
 use Rattle.mea_family.specs.Play.{Part, PartYields, PartRests}
 
--- refused for its cause; or, where it has none and is not free of memory, for want of that
+-- refused for its cause, which is never want of memory; or, where there is no cause and memory may be taken, for want of it
 abbrev pub Refuses : Option Stop → Type 0 → Stop → Type 0
 Refuses cause free stop = ((cause ≡ Some stop) × (stop ≢ stops.NoMemory)) ⊎ ((cause ≡ None) × (stop ≡ stops.NoMemory) × (free → ⊥))
 

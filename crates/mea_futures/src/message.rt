@@ -1,7 +1,7 @@
 ghost use Rattle.std.specs.Prelude.{◌≡◌, IfOk};
 
 use crate::bell::Bell;
-use futures::task::Poll;
+use mea_base::Poll;
 use mea_shot::{Message, Receiver, Recv, RecvError};
 use mea_wait::{End, Polled, Unpolled, Waits};
 use std::sync::Wait;

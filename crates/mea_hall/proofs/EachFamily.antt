@@ -50,7 +50,7 @@ if_ok : {A E : Type 0} (P Q : A → Type 0) (r : Result A E) → ((a : A) → P 
 if_ok P Q (Ok a) f h = f a h
 if_ok P Q (Err e) f h = h
 
--- an event wakes none but registered wakers
+-- an event wakes no more wakers than are registered
 pub most_woken : (w : World) (i : ℕ) (e : Event) → length (step w i e).reply.1 ≤ registered w
 unfolding step
 most_woken w i (Sem e) = omega (arith, (sem_laws.settles w.semaphores i e).most)

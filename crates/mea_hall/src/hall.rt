@@ -45,7 +45,7 @@ impl Model for Hall {
 }
 
 impl Hall {
-    /// Halls with nothing in them. It takes no memory.
+    /// A hall with nothing in it. It takes no memory.
     pub fn new(alloc: Global) -> Hall
         ensures { result ≡ record { world = empty_world; wakes = []; events = 0 } }
     {

@@ -1,8 +1,8 @@
 -- lists of calls on a service: what they make of its record and of what a core keeps, and what they answer
 use Rattle.std.specs.Prelude.{ℕ, ◌≡◌, ◌+◌, ◌≤◌, ◌==◌, ◌&&◌, ◌++◌, List, [], ◌∷◌, length, Option, Some, None, option_to_list, Result, Ok, Err, if◌then◌else◌}
 use Rattle.std.specs.FinMap.{entries, get, len}
-use Rattle.futures.specs.declared.task.Poll.{Poll}
-use Rattle.futures.specs.declared.task.Poll.TheVariants.{Ready, Pending}
+use Rattle.mea_base.specs.declared.poll.Poll.{Poll}
+use Rattle.mea_base.specs.declared.poll.Poll.TheVariants.{Ready, Pending}
 use Rattle.mea_job_core.specs.declared.counts.Counts.{Counts as Counted}
 use Rattle.mea_job_core.specs.declared.finish_error.FinishError.{FinishError}
 use Rattle.mea_job_core.specs.declared.finish_error.FinishError.TheVariants as finish

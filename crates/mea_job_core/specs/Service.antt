@@ -2,8 +2,8 @@
 use Rattle.std.specs.Prelude.{ℕ, ◌≡◌, ◌+◌, ◌==◌, ◌&&◌, ◌++◌, Bool, true, false, List, [], ◌∷◌, length, Option, Some, None, is_some, option_to_list, Result, Ok, Err, MatchResult, if◌then◌else◌, refl}
 use Rattle.std.specs.Coded.{Coded, code_by, coded×, coded_ℕ, coded_list, coded_option}
 use Rattle.std.specs.FinMap.{get, len}
-use Rattle.futures.specs.declared.task.Poll.{Poll}
-use Rattle.futures.specs.declared.task.Poll.TheVariants.{Ready, Pending}
+use Rattle.mea_base.specs.declared.poll.Poll.{Poll}
+use Rattle.mea_base.specs.declared.poll.Poll.TheVariants.{Ready, Pending}
 use Rattle.mea_base.specs.declared.no_memory.NoMemory.{NoMemory}
 use Rattle.mea_job_core.specs.declared.counts.Counts.{Counts}
 use Rattle.mea_job_core.specs.declared.finish_error.FinishError.{FinishError}

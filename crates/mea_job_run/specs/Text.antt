@@ -1,7 +1,7 @@
 -- the text of the replies
 use Rattle.std.specs.Prelude.{ℕ, ◌++◌, List, [], Option, Some, None, Result, Ok, Err, codes}
-use Rattle.futures.specs.declared.task.Poll.{Poll}
-use Rattle.futures.specs.declared.task.Poll.TheVariants.{Ready, Pending}
+use Rattle.mea_base.specs.declared.poll.Poll.{Poll}
+use Rattle.mea_base.specs.declared.poll.Poll.TheVariants.{Ready, Pending}
 use Rattle.mea_text.specs.Text.{number_text, counted_line}
 use Rattle.mea_job_core.specs.declared.counts.Counts.{Counts}
 use Rattle.mea_job_core.specs.declared.finish_error.FinishError.{FinishError}

@@ -1,7 +1,7 @@
 -- a poll of a send keeps its value, or hands it out
 use Rattle.std.proofs.Common.{◌≡◌, Option, Some, None, Result, Ok, Err, MatchResult, refl, sym, subst}
-use Rattle.futures.specs.declared.task.Poll.{Poll}
-use Rattle.futures.specs.declared.task.Poll.TheVariants.{Pending}
+use Rattle.mea_base.specs.declared.poll.Poll.{Poll}
+use Rattle.mea_base.specs.declared.poll.Poll.TheVariants.{Pending}
 use Rattle.mea_base.specs.declared.no_memory.NoMemory.{NoMemory}
 use Rattle.mea_sem_core.specs.declared.acquire.Acquire.{Acquire}
 use Rattle.mea_chan_core.specs.declared.errors.SendError.{SendError}

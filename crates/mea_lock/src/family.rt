@@ -41,6 +41,7 @@ pub type LockHall = FamilyHall<LockFamily, LockModel>;
 #[derive(Drop)]
 pub struct LockFamily {
     kinds: Kinds,
+    // The least number that the next event may have, which may be 2^64.
     next: u128,
 }
 

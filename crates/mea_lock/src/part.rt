@@ -36,6 +36,7 @@ pub struct LockPart<C: LockCore> {
     locks: ByName<LockEntry<C>>,
     futures: ByName<FutureEntry<C>>,
     guards: Roomy<GuardEntry>,
+    // The least number that the next event may have, which may be 2^64.
     next: u128,
     alloc: Global,
 }

@@ -35,6 +35,7 @@ pub type Mutexes = LockPart<MutexCore<u64, NamedWaker>>;
 pub struct WaitPart {
     condvars: ByName<CondvarEntry>,
     waits: ByName<WaitEntry>,
+    // The least number that the next event may have, which may be 2^64.
     next: u128,
     alloc: Global,
 }

@@ -1,4 +1,4 @@
-//! The model of locks: what each event does to many mutexes and reader-writer locks with their futures and
+//! The model of locks: what each event does to many mutexes, reader-writer locks and condition variables with their futures and
 //! guards, as records, lists and finite maps, and the laws that hold of every list of events. It has no code that runs;
 //! the hall of locks is proved against it.
 #![tactic(auto)]

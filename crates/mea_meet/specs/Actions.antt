@@ -1,4 +1,4 @@
--- what the words of the code for what a line does stand for in the model, and what an action asks for
+-- what the words of the code for what a line does stand for in the model, and which kinds have which actions
 use Rattle.std.specs.Prelude.{◌≡◌, Bool, true, false}
 use Rattle.mea_family.specs.Forms.{is_plain}
 use Rattle.mea_meet_model.specs.BarrierActions as at_barriers
@@ -25,10 +25,11 @@ barrier_action (barriers.Poll f w) = at_barriers.Poll f w
 barrier_action (barriers.End f) = at_barriers.End f
 barrier_action (barriers.Drop b) = at_barriers.Drop b
 
--- what is done to points that count
+-- a new point that counts
 abbrev pub new_seen : NewPoint → New
 new_seen new = record { signal = new.signal; members = new.members; counted = new.counted; sends = new.sends }
 
+-- what is done to points that count
 abbrev pub count_action : CountAction → Action
 count_action (Make new) = model.Make (new_seen new)
 count_action (Now k) = model.Now k
@@ -75,7 +76,7 @@ IsNewOf kinds.Latches new = new ≡ latch_from new.signal
 IsNewOf kinds.Groups new = new ≡ new_group
 IsNewOf kinds.Shutdowns new = new ≡ new_shutdown
 
--- the actions of a kind: others are no line's
+-- an action that a line can ask of this kind
 abbrev pub FitsKind : Kind → CountAction → Type 0
 FitsKind k (Make new) = IsNewOf k (new_seen new)
 FitsKind k (Arrive l n) = takes_many k ≡ true
@@ -83,6 +84,7 @@ FitsKind k (Into x) = lends k ≡ false
 FitsKind k (EndEither x) = lends k ≡ false
 FitsKind k _ = Unit {0}
 
+-- what a line means is an action of the kind that it names
 abbrev pub FitsMeaning : Meaning → Type 0
 FitsMeaning (Latches a) = FitsKind kinds.Latches a
 FitsMeaning (Groups a) = FitsKind kinds.Groups a

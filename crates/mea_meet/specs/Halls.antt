@@ -66,6 +66,7 @@ IsFree (Send s) = Unit {0}
 IsFree (EndSender s) = Unit {0}
 IsFree _ = ⊥
 
+-- what a line means takes no memory
 abbrev pub IsFreeBy : Meaning → Type 0
 IsFreeBy (OnBarriers a) = IsFreeAt a
 IsFreeBy (OnCounts k a) = IsFree a
@@ -74,10 +75,11 @@ IsFreeBy (OnCounts k a) = IsFree a
 abbrev pub TakesNoMemory : MeetEvent → Type 0
 TakesNoMemory e = IsFreeBy (meaning_of e)
 
--- event number i asked this of barriers
+-- event number i asked this of barriers: it was done; or refused, and nothing has changed
 abbrev pub BarrierActs : Part Barriers → ℕ → BarrierAction → Result Answer Stop → Part Barriers → Waking ℕ → Waking ℕ → Type 0
 BarrierActs old i a = Acts barriers.registered (cause_at old.hall a) (IsFreeAt a) old i (act_at old.hall i a)
 
+-- and no waker was made ready
 abbrev pub BarrierActsQuietly : Part Barriers → ℕ → BarrierAction → Result Answer Stop → Part Barriers → Type 0
 BarrierActsQuietly old i a = ActsQuietly barriers.registered (cause_at old.hall a) (IsFreeAt a) old i (act_at old.hall i a)
 
@@ -85,6 +87,7 @@ BarrierActsQuietly old i a = ActsQuietly barriers.registered (cause_at old.hall 
 abbrev pub CountActs : Part Counts → ℕ → Action → Result Answer Stop → Part Counts → Waking ℕ → Waking ℕ → Type 0
 CountActs old i a = Acts counts.registered (cause_in old.hall a) (IsFree a) old i (act_in old.hall i a)
 
+-- and no waker was made ready
 abbrev pub CountActsQuietly : Part Counts → ℕ → Action → Result Answer Stop → Part Counts → Type 0
 CountActsQuietly old i a = ActsQuietly counts.registered (cause_in old.hall a) (IsFree a) old i (act_in old.hall i a)
 

@@ -21,6 +21,7 @@ use std::marker::Model;
 pub struct BarrierPart {
     barriers: ByName<BarrierEntry>,
     waits: ByName<BarrierWaitEntry>,
+    // The least number that the next event may have, which may be 2^64.
     next: u128,
     alloc: Global,
 }

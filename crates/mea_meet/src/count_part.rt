@@ -37,6 +37,7 @@ pub struct CountPart<C: CountCore> {
     senders: ByName<u64>,
     holders: ByName<HolderEntry>,
     waits: ByName<WaitEntry>,
+    // The least number that the next event may have, which may be 2^64.
     next: u128,
     alloc: Global,
 }

@@ -41,6 +41,7 @@ pub type MeetHall = FamilyHall<MeetFamily, MeetModel>;
 #[derive(Drop)]
 pub struct MeetFamily {
     kinds: Kinds,
+    // The least number that the next event may have, which may be 2^64.
     next: u128,
 }
 

@@ -41,6 +41,7 @@ impl<C: CountCore> PointEntry<C> {
         }
     }
 
+    /// Its core. It takes no memory.
     pub fn core(&self) -> &C
         ensures { C.point_of result.now ≡ self.now.point }
     {

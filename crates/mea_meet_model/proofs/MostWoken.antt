@@ -1,4 +1,4 @@
--- an event wakes none but registered wakers
+-- an event wakes no more wakers than are registered
 use Rattle.std.proofs.Common.{ℕ, ◌≤◌, length}
 use Rattle.mea_events.specs.declared.meet_event.MeetEvent.{MeetEvent}
 use Rattle.mea_meet_model.specs.Hall.{Hall, registered}

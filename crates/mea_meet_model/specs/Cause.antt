@@ -8,6 +8,7 @@ use Rattle.mea_meet_model.specs.BarrierActions.{cause_at}
 use Rattle.mea_meet_model.specs.Hall.{Hall, part}
 use Rattle.mea_meet_model.specs.Meaning.{Meaning, OnBarriers, OnCounts, meaning_of}
 
+-- why what a line means is refused
 abbrev pub cause_by : Hall → Meaning → Option Stop
 cause_by h (OnBarriers a) = cause_at h.barriers a
 cause_by h (OnCounts k a) = cause_in (part h k) a

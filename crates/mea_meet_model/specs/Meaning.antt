@@ -25,6 +25,7 @@ new_group = record { signal = 0; members = 1; counted = true; sends = false }
 abbrev pub new_shutdown : New
 new_shutdown = record { signal = 1; members = 1; counted = true; sends = true }
 
+-- what each line means
 abbrev pub meaning_of : MeetEvent → Meaning
 meaning_of (BarNew n) = OnBarriers (at_barriers.Make n)
 meaning_of (BarWait b) = OnBarriers (at_barriers.Begin b)

@@ -10,13 +10,14 @@ use Rattle.mea_meet_model.specs.BarrierActions.{act_at, registers_at}
 use Rattle.mea_meet_model.specs.Hall.{Hall, Kind, part, with_part}
 use Rattle.mea_meet_model.specs.Meaning.{Meaning, OnBarriers, OnCounts, meaning_of}
 
--- an event on meeting points of one kind leaves those of the others as they are
+-- the hall after what was done to the points of one kind, which leaves the others as they are
 abbrev pub on_barriers : Hall → Outcome Barriers → Outcome Hall
 on_barriers h o = record { hall = record h { barriers = o.hall }; reply = o.reply; wakes = o.wakes }
 
 abbrev pub on_counts : Hall → Kind → Outcome Counts → Outcome Hall
 on_counts h k o = record { hall = with_part h k o.hall; reply = o.reply; wakes = o.wakes }
 
+-- what is done under number i, by what a line means
 abbrev pub step_by : Hall → ℕ → Meaning → Outcome Hall
 step_by h i (OnBarriers a) = on_barriers h (act_at h.barriers i a)
 step_by h i (OnCounts k a) = on_counts h k (act_in (part h k) i a)

@@ -67,6 +67,7 @@ FitsTurn once (Begin o job) = fits once job ≡ true
 FitsTurn once (Settle f r) = FitsSettled once r
 FitsTurn once _ = Unit {0}
 
+-- what a line means is an action of the kind that it names
 abbrev pub FitsMeaning : Meaning → Type 0
 FitsMeaning (Onces a) = FitsTurn true a
 FitsMeaning (Cells a) = FitsTurn false a

@@ -14,17 +14,19 @@ use Rattle.mea_once_model.specs.KeyActions.{KeyAction, key_cause, key_act}
 use Rattle.mea_once_model.specs.Meaning.{Meaning, cause_by}
 use Rattle.mea_once.specs.Halls.{Parts, hall_of, PlaysBy, IsFree, IsKeyFree, IsFreeBy}
 
--- ---- event number i asked this of the cells of one kind
+-- event number i asked this of the cells of one kind: it was done; or refused, and nothing has changed
 abbrev pub CellActs : Part Cells → ℕ → Action → Result Answer Stop → Part Cells → Waking ℕ → Waking ℕ → Type 0
 CellActs old i a = Acts cells.registered (cause_in old.hall a) (IsFree a) old i (act_in old.hall i a)
 
+-- and no waker was made ready
 abbrev pub CellActsQuietly : Part Cells → ℕ → Action → Result Answer Stop → Part Cells → Type 0
 CellActsQuietly old i a = ActsQuietly cells.registered (cause_in old.hall a) (IsFree a) old i (act_in old.hall i a)
 
--- of the maps, or of the groups, whose values are for one round alone
+-- it asked this of the maps, or of the groups, whose values are for one round alone
 abbrev pub KeyActs : Bool → Part Tables → ℕ → KeyAction → Result Answer Stop → Part Tables → Waking ℕ → Waking ℕ → Type 0
 KeyActs once old i a = Acts tables.registered (key_cause old.hall a) (IsKeyFree a) old i (key_act once old.hall i a)
 
+-- and no waker was made ready
 abbrev pub KeyActsQuietly : Bool → Part Tables → ℕ → KeyAction → Result Answer Stop → Part Tables → Type 0
 KeyActsQuietly once old i a = ActsQuietly tables.registered (key_cause old.hall a) (IsKeyFree a) old i (key_act once old.hall i a)
 

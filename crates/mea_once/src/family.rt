@@ -44,6 +44,7 @@ pub type OnceHall = FamilyHall<OnceFamily, OnceModel>;
 #[derive(Drop)]
 pub struct OnceFamily {
     kinds: Kinds,
+    // The least number that the next event may have, which may be 2^64.
     next: u128,
 }
 

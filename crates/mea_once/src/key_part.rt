@@ -28,6 +28,7 @@ use std::marker::Model;
 pub struct KeyPart<C: TableCore> {
     tables: ByName<TableEntry<C>>,
     futures: ByName<KeyFuture>,
+    // The least number that the next event may have, which may be 2^64.
     next: u128,
     alloc: Global,
 }

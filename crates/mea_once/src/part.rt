@@ -29,6 +29,7 @@ use std::marker::Model;
 pub struct CellPart<C: TurnCore> {
     cells: ByName<CellEntry<C>>,
     futures: ByName<FutureEntry>,
+    // The least number that the next event may have, which may be 2^64.
     next: u128,
     alloc: Global,
 }

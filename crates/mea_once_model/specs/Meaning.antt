@@ -22,6 +22,7 @@ pub record KeyDoing : Type 0 where
   pub kind : TableKind
   pub action : KeyAction
 
+-- what a line does: something to cells, or to maps or groups
 pub data Meaning : Type 0 where
   OfCells : Doing → Meaning
   OfTables : KeyDoing → Meaning
@@ -38,6 +39,7 @@ on_maps a = OfTables (record { kind = Maps; action = a })
 abbrev pub on_groups : KeyAction → Meaning
 on_groups a = OfTables (record { kind = Groups; action = a })
 
+-- what each line means
 abbrev pub meaning_of : OnceEvent → Meaning
 meaning_of OnNew = on_onces (Make None)
 meaning_of (OnDone o) = on_onces (TellFull o)

@@ -3,8 +3,8 @@ use Rattle.std.proofs.Common.{◌≡◌, ◌≢◌, ◌∙◌, ℕ, ◌+◌, ◌
 use Rattle.std.proofs.lemmas.Bool.{cases_lt, cases_Bool}
 use Rattle.std.specs.Prelude.{OnErr}
 use Rattle.std.specs.FinMap as map
-use Rattle.futures.specs.declared.task.Poll.{Poll}
-use Rattle.futures.specs.declared.task.Poll.TheVariants as poll
+use Rattle.mea_base.specs.declared.poll.Poll.{Poll}
+use Rattle.mea_base.specs.declared.poll.Poll.TheVariants as poll
 use Rattle.mea_base.specs.declared.no_memory.NoMemory.{NoMemory}
 use Rattle.mea_sem_core.specs.declared.open_turn.OpenTurn.{OpenTurn}
 use Rattle.mea_sem_core.specs.declared.open_turn.OpenTurn.TheVariants.{Ready, Pending, Closed}

@@ -2,7 +2,7 @@
 use Rattle.std.specs.Prelude.{ℕ, ◌+◌, ◌<◌, ◌≤◌, ◌==◌, ◌++◌, if◌then◌else◌, List, [], ◌∷◌, Some, is_some, Result, Ok}
 use Rattle.std.specs.Ordering.{nat_cmp}
 use Rattle.std.specs.FinMap as map
-use Rattle.futures.specs.declared.task.Poll.{Poll}
+use Rattle.mea_base.specs.declared.poll.Poll.{Poll}
 use Rattle.mea_base.specs.declared.no_memory.NoMemory.{NoMemory}
 use Rattle.mea_lock_core.specs.Condvar.{waker_under}
 use Rattle.mea_pool_core.specs.declared.lease_wait.LeaseWait.{LeaseWait}

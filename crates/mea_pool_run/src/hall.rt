@@ -71,6 +71,7 @@ impl PoolHall {
         Ok(PoolReply::Told(Answer::Made))
     }
 
+    // Polls the wait of this name, if it is one.
     fn poll(&mut self, number: u64, name: u64, waker: u64) -> Result<PoolReply, NoMemory>
         requires stands { Stands self.old.pool self.old.things }
         requires below { AreBelow self.old.things number }
@@ -140,7 +141,7 @@ impl PoolHall {
         }
     }
 
-    // The resource of the lease of this name is this value now.
+    // The resource of the lease of this name, if it is one, is this value now.
     fn set(&mut self, name: u64, value: u64) -> Result<PoolReply, NoMemory>
         requires stands { Stands self.old.pool self.old.things }
         ensures goes { IfOk result (λ reply. Goes (use_of (get (hall_of self.old.pool self.old.things).things name) (hall_of self.old.pool self.old.things) name value) self.new.pool self.new.things reply) }
@@ -154,6 +155,7 @@ impl PoolHall {
         }
     }
 
+    // The same of what is known to be a lease.
     fn set_lease(&mut self, name: u64, value: u64) -> Result<PoolReply, NoMemory>
         requires stands { Stands self.old.pool self.old.things }
         requires out { (lease : ℕ × ℕ) × (get self.old.things name ≡ Some (Thing.Held lease)) }
@@ -168,7 +170,7 @@ impl PoolHall {
         Ok(PoolReply::Told(Answer::Done))
     }
 
-    // Puts the lease of this name back. It takes no memory.
+    // Puts the lease of this name back, if it is one. It takes no memory.
     fn put_back(&mut self, name: u64) -> PoolReply
         requires stands { Stands self.old.pool self.old.things }
         ensures goes { Goes (back_of (get (hall_of self.old.pool self.old.things).things name) (hall_of self.old.pool self.old.things) name) self.new.pool self.new.things result }
@@ -182,6 +184,7 @@ impl PoolHall {
         }
     }
 
+    // The same of what is known to be a lease.
     fn put_lease_back(&mut self, name: u64) -> PoolReply
         requires stands { Stands self.old.pool self.old.things }
         requires out { (lease : ℕ × ℕ) × (get self.old.things name ≡ Some (Thing.Held lease)) }
@@ -195,7 +198,7 @@ impl PoolHall {
         PoolReply::Told(Answer::Done)
     }
 
-    // Ends the wait of this name. It takes no memory.
+    // Ends the wait of this name, if it is one. It takes no memory.
     fn end(&mut self, name: u64) -> PoolReply
         requires stands { Stands self.old.pool self.old.things }
         ensures goes { Goes (end_of (get (hall_of self.old.pool self.old.things).things name) (hall_of self.old.pool self.old.things) name) self.new.pool self.new.things result }
@@ -209,6 +212,7 @@ impl PoolHall {
         }
     }
 
+    // Ends what is known to be a wait for a lease.
     fn end_lease(&mut self, name: u64) -> PoolReply
         requires stands { Stands self.old.pool self.old.things }
         requires asks { (wait : Asking) × (get self.old.things name ≡ Some (Thing.Ask wait)) }
@@ -222,6 +226,7 @@ impl PoolHall {
         PoolReply::Told(Answer::Done)
     }
 
+    // Ends what is known to be a wait for the end of the drain.
     fn end_drain(&mut self, name: u64) -> PoolReply
         requires stands { Stands self.old.pool self.old.things }
         requires awaits { (wait : Awaiting) × (get self.old.things name ≡ Some (Thing.Wait wait)) }

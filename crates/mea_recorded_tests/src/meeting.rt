@@ -9,6 +9,7 @@ pub struct Meeting {
 }
 
 impl Meeting {
+    /// Nobody has come yet.
     pub fn new() -> Meeting {
         Meeting {
             arrivals: [AtomicU64::new(0), AtomicU64::new(0)],

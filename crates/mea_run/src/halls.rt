@@ -12,7 +12,7 @@ use mea_script::Machine;
 use mea_text::put_reply;
 use std::alloc::Global;
 
-/// The halls of all families as the machine of scripts.
+/// All families as the machine of scripts.
 #[derive(Drop)]
 pub struct Halls {
     hall: Hall,

@@ -1,5 +1,5 @@
 //! The program: scripts from a source of bytes, and their replies to a sink of bytes. All that it does is
-//! `run`, over the halls of all families; the sources and sinks of `mea_io` are given again.
+//! `run`, over the hall of all families; the sources and sinks of `mea_io` are given again.
 #![tactic(auto)]
 
 mod generator;

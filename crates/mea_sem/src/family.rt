@@ -20,8 +20,8 @@ use std::marker::Model;
 /// Many semaphores with their futures and permits, each by the number of the event that made it. It keeps no list of
 /// wakers: an event is lent the list into which it makes wakers ready.
 ///
-/// Each semaphore is a core of its own; a future keeps its acquire. Each event costs a look-up by name and
-/// the waiters that it pays, however many wait.
+/// Each semaphore is a core of its own; a future keeps its acquire. Each event costs a few look-ups by name
+/// and the waiters that it pays, however many wait.
 #[derive(Drop)]
 pub struct SemFamily {
     pub(crate) alloc: Global,
@@ -30,6 +30,7 @@ pub struct SemFamily {
     pub(crate) ended: Vec<EndedEntry>,
     pub(crate) futures: HashMap<u64, FutureEntry, NameHasher>,
     pub(crate) permits: HashMap<u64, PermitEntry, NameHasher>,
+    // The least number that the next event may have, which may be 2^64.
     pub(crate) next: u128,
 }
 

@@ -53,6 +53,8 @@ impl SemFamily {
         Ok(Answer::Made)
     }
 
+    // `poll`: ready, refused since the semaphore was closed, waiting from now on, or waiting on. Room for the permit that it may
+    // become is made before the core is asked.
     pub(crate) fn poll(
         &mut self,
         number: u64,

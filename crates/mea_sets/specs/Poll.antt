@@ -1,3 +1,3 @@
 -- `Poll` and its variants, as `futures` has them
-pub use Rattle.futures.specs.declared.task.Poll.{Poll}
-pub use Rattle.futures.specs.declared.task.Poll.TheVariants.{Ready, Pending}
+pub use Rattle.mea_base.specs.declared.poll.Poll.{Poll}
+pub use Rattle.mea_base.specs.declared.poll.Poll.TheVariants.{Ready, Pending}

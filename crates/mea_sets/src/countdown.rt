@@ -4,8 +4,7 @@ ghost use Rattle.mea_sets.specs.Countdown.{Counting, count_from, decreasing, Pol
 
 use crate::place::Place;
 use crate::wait_set::WaitSet;
-use futures::task::Poll;
-use mea_base::{NoMemory, Outbox, Overflow};
+use mea_base::{NoMemory, Outbox, Overflow, Poll};
 use std::alloc::Global;
 use std::marker::Model;
 

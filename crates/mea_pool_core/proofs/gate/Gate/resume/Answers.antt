@@ -1,5 +1,5 @@
 use Rattle.std.proofs.Common.{◌≡◌, true, false, Ok, refl, sym, subst, ◌∙◌}
-use Rattle.futures.specs.declared.task.Poll.TheVariants as poll
+use Rattle.mea_base.specs.declared.poll.Poll.TheVariants as poll
 use Rattle.mea_base.specs.declared.turn.Turn.{Turn}
 use Rattle.mea_lock_core.specs.CondWaits.{PollsListed}
 use Rattle.mea_pool_core.specs.declared.drain_wait.DrainWait.TheVariants.{Listed, Done}

@@ -1,6 +1,6 @@
 use Rattle.std.proofs.Common.{◌+◌, Some, Ok, is_some, refl, ap, sym, subst, ◌∙◌}
 use Rattle.std.specs.FinMap.{insert}
-use Rattle.futures.specs.declared.task.Poll.{Poll}
+use Rattle.mea_base.specs.declared.poll.Poll.{Poll}
 use Rattle.mea_base.proofs.Maps.{inside}
 use Rattle.mea_by_name.specs.ByName.{Names}
 use Rattle.mea_pool_core.specs.Calls.{PollsDrain}
