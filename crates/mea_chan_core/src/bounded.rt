@@ -1,4 +1,4 @@
-ghost use Rattle.std.specs.Prelude.{◌≡◌, ◌≢◌, ◌+◌, ◌-◌, ◌<◌, ◌≤◌, ◌^◌, ◌↔◌, [], ◌∷◌, ◌++◌, length, Some, None, Ok, Err, false, true, IfOk, IfErr, IfSome, IfNone, OnOk, OnErr, IsOk, IsErr, IsSome, IsTrue, is_some};
+ghost use Rattle.std.specs.Prelude.{◌≡◌, ◌≢◌, ◌+◌, ◌-◌, ◌<◌, ◌≤◌, ◌^◌, ◌↔◌, [], ◌∷◌, ◌++◌, length, Some, None, Ok, Err, false, true, IfOk, IfSome, IfNone, OnOk, OnErr, IsOk, IsErr, IsSome, IsTrue, is_some};
 ghost use Rattle.mea_sem_core.specs.Acquire.{demand_of};
 ghost use Rattle.mea_sem_core.specs.Calls.{Belongs, with_waker};
 ghost use Rattle.mea_chan_core.specs.Channel.{Channel, no_senders};
