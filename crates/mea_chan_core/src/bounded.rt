@@ -1,4 +1,4 @@
-ghost use Rattle.std.specs.Prelude.{◌≡◌, ◌≢◌, ◌+◌, ◌-◌, ◌<◌, ◌≤◌, ◌^◌, ◌↔◌, [], ◌∷◌, ◌++◌, length, Some, None, Ok, Err, false, true, IfOk, IfSome, IfNone, OnOk, OnErr, IsOk, IsErr, IsSome, IsTrue, is_some};
+ghost use Rattle.std.specs.Prelude.{◌≡◌, ◌+◌, ◌-◌, ◌<◌, ◌≤◌, ◌^◌, ◌↔◌, [], ◌∷◌, length, Some, None, Ok, Err, false, true, IfOk, IfSome, IfNone, OnOk, OnErr, IsOk, IsErr, IsSome, IsTrue, is_some};
 ghost use Rattle.mea_sem_core.specs.Acquire.{demand_of};
 ghost use Rattle.mea_sem_core.specs.Calls.{Belongs, with_waker};
 ghost use Rattle.mea_chan_core.specs.Channel.{Channel, no_senders};
@@ -194,15 +194,15 @@ impl<T: Drop, W: Drop> BoundedCore<T, W> {
         ensures answer { result ≡ recv_answer self.old }
         ensures after { self.new ≡ after_recv self.old }
     {
-        let Some(value) = self.messages.pop_front() else {
-            if self.ended || self.senders == 0 {
-                return Err(TryRecvError::Disconnected);
+        match self.messages.pop_front() {
+            Some(value) => {
+                self.waiting.release_if_waiting(1);
+                move_wakes(&mut self.waiting, &mut self.outbox);
+                Ok(value)
             }
-            return Err(TryRecvError::Empty);
-        };
-        self.waiting.release_if_waiting(1);
-        move_wakes(&mut self.waiting, &mut self.outbox);
-        Ok(value)
+            None if self.ended || self.senders == 0 => Err(TryRecvError::Disconnected),
+            None => Err(TryRecvError::Empty),
+        }
     }
 
     /// Polls a receive: ready as `try_recv`, or pending with the waker in the place of the one before. It takes memory

@@ -1,4 +1,4 @@
-ghost use Rattle.std.specs.Prelude.{◌≡◌, ◌≢◌, ◌+◌, ◌<◌, ◌^◌, ◌↔◌, [], ◌∷◌, length, Some, None, Ok, Err, false, true, IfOk, IfSome, IfNone, OnOk, OnErr, IsOk, IsErr, IsSome, MatchResult, is_some};
+ghost use Rattle.std.specs.Prelude.{◌≡◌, ◌+◌, ◌<◌, ◌^◌, ◌↔◌, [], ◌∷◌, length, Some, None, Ok, Err, false, true, IfSome, IfNone, OnOk, OnErr, IsOk, IsErr, IsSome, MatchResult, is_some};
 ghost use Rattle.mea_chan_core.specs.Mailbox.{Mailbox, with_message, recv_answer, after_recv, PollsRecv, without_receiver, without_sender};
 
 use crate::errors::{RecvError, TryRecvError, UnboundedError};

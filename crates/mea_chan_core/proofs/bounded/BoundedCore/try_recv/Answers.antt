@@ -10,8 +10,7 @@ move_wakes-requires g c =
     let stays = (makes_way c.self.inside.waiting c.release_if_waiting.new.self c.self.invariant.waiting c.release_if_waiting.ensures.waits c.release_if_waiting.ensures.idle).0 in
     omega (arith, stays.room, c.self.invariant.room)
 
-pub invariant_of-self-2 : goal.invariant_of-self-2
-invariant_of-self-2 g c =
+pub invariant_of-self : goal.invariant_of-self
+invariant_of-self g c =
     let stays = (makes_way c.self.inside.waiting c.release_if_waiting.new.self c.self.invariant.waiting c.release_if_waiting.ensures.waits c.release_if_waiting.ensures.idle).0 in
-    let items = c.in-Some.ensures.items in
     search rules
