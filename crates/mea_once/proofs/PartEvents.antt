@@ -25,9 +25,9 @@ use Rattle.mea_cores_by_name.specs.Linked.{names_in}
 use Rattle.mea_cores_by_name.specs.SetLinked.{AreBelow, names_of, set_names}
 use Rattle.mea_cores_by_name.proofs.Sets.{below_absent}
 use Rattle.mea_once_core.specs.declared.cell_stage.CellStage.TheVariants.{New}
-use Rattle.mea_once_model.specs.declared.job.Initialiser.{Initialiser}
-use Rattle.mea_once_model.specs.declared.job.Job.{Job}
-use Rattle.mea_once_model.specs.declared.job.Job.TheVariants.{Calls, Computes, Alone, Sets, Inserts, Awaits}
+use Rattle.mea_once_model.specs.declared.errand.Initialiser.{Initialiser}
+use Rattle.mea_once_model.specs.declared.errand.Errand.{Errand}
+use Rattle.mea_once_model.specs.declared.errand.Errand.TheVariants.{Calls, Computes, Alone, Sets, Inserts, Awaits}
 use Rattle.mea_once_model.specs.Cells as model
 use Rattle.mea_once_model.specs.Cells.{Cell, CellFuture, Cells, Step, is_cell, is_future, is_unsettled, settles_in, futures_of, alone_of, registered, waiting_at, is_alone, settled}
 use Rattle.mea_once_model.specs.Actions.{act_in, Make, Begin, Poll, Settle, End, TellFull, Tell, Peek, Put, Take, TakeOut, Drop, in_the_way}
@@ -96,7 +96,7 @@ module _ (once : Bool) {old : Part Cells} (es : Names KeptCell) (fs : Names Futu
     futures_are = ap (λ (p : Part Cells). futures_of p.hall o) (sym view) ∙ ap (λ n. len n) own_seen ∙ len-seen future_seen (own of_future o fs) ∙ sym (kept.hall.each o e there).tied.futures
 
     pub alone_are : alone_of old.hall o ≡ e.alone
-    alone_are = ap (λ (p : Part Cells). alone_of p.hall o) (sym view) ∙ ap (count (λ (x : CellFuture). is_alone x.job)) own_seen ∙ total-seen future_seen (λ (x : CellFuture). cond (is_alone x.job) 1 0) (own of_future o fs) ∙ sym (kept.hall.each o e there).tied.alone
+    alone_are = ap (λ (p : Part Cells). alone_of p.hall o) (sym view) ∙ ap (count (λ (x : CellFuture). is_alone x.errand)) own_seen ∙ total-seen future_seen (λ (x : CellFuture). cond (is_alone x.errand) 1 0) (own of_future o fs) ∙ sym (kept.hall.each o e there).tied.alone
 
     pub stands_for : StandsFor old.hall o e.cell
     stands_for = record {
@@ -120,8 +120,8 @@ module _ (once : Bool) {old : Part Cells} (es : Names KeptCell) (fs : Names Futu
     pub whole_cause : (p : Option KeptCell) → get es o ≡ p → borrowed_by (is_cell old.hall o) (futures_of old.hall o) ≡ borrowed_at (λ (e : KeptCell). e.futures) p
     whole_cause = borrowed_is (futures_of old.hall o) (λ e. e.futures) (futures_are kept o)
 
-    pub begin_cause : (job : Job) (p : Option KeptCell) → get es o ≡ p → borrowed_by (is_cell old.hall o) (in_the_way old.hall o job) ≡ borrowed_at (λ (e : KeptCell). if is_alone job then e.futures else e.alone) p
-    begin_cause job = borrowed_is (in_the_way old.hall o job) (λ e. if is_alone job then e.futures else e.alone) (λ e is. so (is_alone job) e is)
+    pub begin_cause : (errand : Errand) (p : Option KeptCell) → get es o ≡ p → borrowed_by (is_cell old.hall o) (in_the_way old.hall o errand) ≡ borrowed_at (λ (e : KeptCell). if is_alone errand then e.futures else e.alone) p
+    begin_cause errand = borrowed_is (in_the_way old.hall o errand) (λ e. if is_alone errand then e.futures else e.alone) (λ e is. so (is_alone errand) e is)
       where
         so : (b : Bool) (e : KeptCell) → get es o ≡ Some e → (if b then futures_of old.hall o else alone_of old.hall o) ≡ (if b then e.futures else e.alone)
         so true e is = futures_are kept o e is
@@ -229,7 +229,7 @@ module _ (once : Bool) {old : Part Cells} {i : ℕ} (s : Site once old i) where
     few_futures =
         let low = s.kept.hall.below o e there in
         let all = s.kept.hall.low in
-        let alone : e.alone ≤ e.futures = omega (arith, its_kept.tied.alone, its_kept.tied.futures, count-least (λ (x : FutureEntry). is_alone x.job) (own of_future o s.fs)) in
+        let alone : e.alone ≤ e.futures = omega (arith, its_kept.tied.alone, its_kept.tied.futures, count-least (λ (x : FutureEntry). is_alone x.errand) (own of_future o s.fs)) in
         (omega (arith, low.1), omega (arith, low.1))
 
     found_cell : (act : Cell → Outcome Cells) → found (get (seen cell_seen s.es) o) seen_all act ≡ act (cell_seen e)
@@ -326,12 +326,12 @@ module _ (once : Bool) {old : Part Cells} {i : ℕ} (s : Site once old i) where
       taken_out before room = goes_yields (λ h. act_in h i (TakeOut o)) (content e.cell.value) before (found_cell _) room
 
     -- ---- a future of it is made
-    pub begins_future : (x : FutureEntry) → x.cell ≡ o → x.stage ≡ New → x.wait ≡ None → fits once x.job ≡ true → in_the_way old.hall o x.job ≡ 0
-        → (AreKeptCells once (insert s.es o (begun e x.job)) (insert s.fs i x) (i + 1)) × PartRests registered old i (act_in old.hall i (Begin o x.job)) answers.Made (part_of (insert s.es o (begun e x.job)) (insert s.fs i x) (i + 1))
+    pub begins_future : (x : FutureEntry) → x.cell ≡ o → x.stage ≡ New → x.wait ≡ None → fits once x.errand ≡ true → in_the_way old.hall o x.errand ≡ 0
+        → (AreKeptCells once (insert s.es o (begun e x.errand)) (insert s.fs i x) (i + 1)) × PartRests registered old i (act_in old.hall i (Begin o x.errand)) answers.Made (part_of (insert s.es o (begun e x.errand)) (insert s.fs i x) (i + 1))
     begins_future x mine new unplaced fit free =
         let no_future = halls.no_first of_future of_none (Good once) (λ e. e.futures) s.es s.fs empty s.next i s.kept.hall s.later s.fits in
-        let counted = kept_now (begun e x.job) in (
-          turns (begun e x.job) (insert s.fs i x) (Comes i x (omega arith) mine (λ y had. absurd (cc)))
+        let counted = kept_now (begun e x.errand) in (
+          turns (begun e x.errand) (insert s.fs i x) (Comes i x (omega arith) mine (λ y had. absurd (cc)))
               (rw (own-put of_future o s.fs i x mine) (record {
                 sound = its_kept.sound;
                 quiet = its_kept.quiet;
@@ -339,14 +339,14 @@ module _ (once : Bool) {old : Part Cells} {i : ℕ} (s : Site once old i) where
                     (λ alone. sym (futures_are once s.es s.fs s.next s.view s.kept o e there) ∙ whole alone) (λ shares. sym (alone_are once s.es s.fs s.next s.view s.kept o e there) ∙ shared shares);
               }))
               (omega arith) (low_old o e there),
-          rests_as (λ h. act_in h i (Begin o x.job)) _ answers.Made (insert s.es o (begun e x.job)) (insert s.fs i x) refl refl (seen-alike cell_seen s.es o e (begun e x.job) there refl)
-              (seen-insert future_seen s.fs i x ∙ ap (insert (seen future_seen s.fs) i) (λ j. record { cell = mine j; job = x.job; polled = ap is_polled new j })) refl (omega (arith, counted)),
+          rests_as (λ h. act_in h i (Begin o x.errand)) _ answers.Made (insert s.es o (begun e x.errand)) (insert s.fs i x) refl refl (seen-alike cell_seen s.es o e (begun e x.errand) there refl)
+              (seen-insert future_seen s.fs i x ∙ ap (insert (seen future_seen s.fs) i) (λ j. record { cell = mine j; errand = x.errand; polled = ap is_polled new j })) refl (omega (arith, counted)),
         )
       where
-        whole : is_alone x.job ≡ true → futures_of old.hall o ≡ 0
+        whole : is_alone x.errand ≡ true → futures_of old.hall o ≡ 0
         whole alone = sym (ap (λ b. if b then futures_of old.hall o else alone_of old.hall o) alone) ∙ free
 
-        shared : is_alone x.job ≡ false → alone_of old.hall o ≡ 0
+        shared : is_alone x.errand ≡ false → alone_of old.hall o ≡ 0
         shared shares = sym (ap (λ b. if b then futures_of old.hall o else alone_of old.hall o) shares) ∙ free
 
   -- ---- a future of a cell makes a step
@@ -423,10 +423,10 @@ module _ (once : Bool) {old : Part Cells} {i : ℕ} (s : Site once old i) where
     looked = rw (insert_same s.es x.cell e there, insert_same s.fs f x future) (s.kept, s.view)
 
     -- a settled initialiser fits
-    pub fits_settled : (r : Initialiser) → FitsSettled once r → fits once (settled r x.job) ≡ true
-    fits_settled r fit = at x.job ((stands_there.kept.tied.each f x stands_there.there).fits)
+    pub fits_settled : (r : Initialiser) → FitsSettled once r → fits once (settled r x.errand) ≡ true
+    fits_settled r fit = at x.errand ((stands_there.kept.tied.each f x stands_there.there).fits)
       where
-        at : (j : Job) → fits once j ≡ true → fits once (settled r j) ≡ true
+        at : (j : Errand) → fits once j ≡ true → fits once (settled r j) ≡ true
         at (Calls q) is = by_kind once refl is
           where
             by_kind : (b : Bool) → once ≡ b → cond b (gives_nothing q) false ≡ true → cond b (gives_nothing r) false ≡ true

@@ -7,8 +7,8 @@ use Rattle.mea_family.specs.declared.stop.Stop.TheVariants as stops
 use Rattle.mea_family.specs.Causes.{unknown_unless, borrowed_by}
 use Rattle.mea_family.specs.Family.{Outcome}
 use Rattle.mea_family.specs.Play.{found, content}
-use Rattle.mea_once_model.specs.declared.job.Initialiser.{Initialiser}
-use Rattle.mea_once_model.specs.declared.job.Job.{Job}
+use Rattle.mea_once_model.specs.declared.errand.Initialiser.{Initialiser}
+use Rattle.mea_once_model.specs.declared.errand.Errand.{Errand}
 use Rattle.mea_once_model.specs.Cells as cells
 use Rattle.mea_once_model.specs.Cells.{Cells, is_cell, is_future, is_unsettled, is_alone, futures_of, alone_of}
 
@@ -16,7 +16,7 @@ pub data Action : Type 0 where
   -- a cell, with this value or none
   Make : Option ℕ → Action
   -- a future of the cell that does this
-  Begin : ℕ → Job → Action
+  Begin : ℕ → Errand → Action
   -- a future is polled with a waker, its initialiser is settled, or it ends
   Poll : ℕ → ℕ → Action
   Settle : ℕ → Initialiser → Action
@@ -33,12 +33,12 @@ pub data Action : Type 0 where
 
 -- how many futures are in the way of a new one: one that is to use the cell alone suffers none beside it, and else none
 -- that does may be there
-abbrev pub in_the_way : Cells → ℕ → Job → ℕ
-in_the_way h o job = if is_alone job then futures_of h o else alone_of h o
+abbrev pub in_the_way : Cells → ℕ → Errand → ℕ
+in_the_way h o errand = if is_alone errand then futures_of h o else alone_of h o
 
 abbrev pub cause_in : Cells → Action → Option Stop
 cause_in h (Make v) = None
-cause_in h (Begin o job) = borrowed_by (is_cell h o) (in_the_way h o job)
+cause_in h (Begin o errand) = borrowed_by (is_cell h o) (in_the_way h o errand)
 cause_in h (Poll f w) = unknown_unless (is_future h f)
 cause_in h (Settle f r) = unknown_unless (is_unsettled h f)
 cause_in h (End f) = unknown_unless (is_future h f)
@@ -53,7 +53,7 @@ cause_in h (Drop o) = borrowed_by (is_cell h o) (futures_of h o)
 -- what is done under number i
 abbrev pub act_in : Cells → ℕ → Action → Outcome Cells
 act_in h i (Make v) = cells.make h i v
-act_in h i (Begin o job) = cells.begin h i o job
+act_in h i (Begin o errand) = cells.begin h i o errand
 act_in h i (Poll f w) = found (get h.futures f) h (λ x. found (get h.cells x.cell) h (λ c. cells.applied h f x.cell (cells.poll f w x c)))
 act_in h i (Settle f r) = found (get h.futures f) h (λ x. found (get h.cells x.cell) h (λ c. cells.applied h f x.cell (cells.settle f r x c)))
 act_in h i (End f) = found (get h.futures f) h (λ x. cells.end_at h f x (get h.cells x.cell))

@@ -4,10 +4,10 @@
 //! types is proved against it.
 #![tactic(auto)]
 
-mod job;
+mod errand;
 mod laws;
 
-pub use job::{Initialiser, Job};
+pub use errand::{Errand, Initialiser};
 pub use laws::{
     a_settled_initialiser_is_woken, a_value_stays, no_wake_is_lost, tables_are_valid,
     wakers_are_kept, wakes_are_of_the_registered,

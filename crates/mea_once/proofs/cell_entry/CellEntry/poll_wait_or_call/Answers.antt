@@ -7,5 +7,5 @@ use Rattle.mea_once.proofs.cell_entry.CellEntry.poll_wait_or_call.Goals as goal
 pub poll_call-requires-clause-caller : goal.poll_call-requires-clause-caller
 poll_call-requires-clause-caller g c =
     let s = c.requires.stands in
-    asks_turn g.C.TurnCore.is_once c.args.future.now.job ((s.kept.tied.each c.args.f c.args.future.now s.there).fits)
-    (ap (λ b. if b then is_wait c.args.future.now.job else is_alone c.args.future.now.job) g.met.C.WaitCore.runs_once ∙ sym c.is_wait.ensures ∙ c.if-is_wait.false)
+    asks_turn g.C.TurnCore.is_once c.args.future.now.errand ((s.kept.tied.each c.args.f c.args.future.now s.there).fits)
+    (ap (λ b. if b then is_wait c.args.future.now.errand else is_alone c.args.future.now.errand) g.met.C.WaitCore.runs_once ∙ sym c.is_wait.ensures ∙ c.if-is_wait.false)
