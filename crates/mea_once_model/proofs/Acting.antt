@@ -20,7 +20,7 @@ use Rattle.mea_once_model.specs.declared.errand.Initialiser.TheVariants.{Unsettl
 use Rattle.mea_once_model.specs.declared.errand.Errand.{Errand}
 use Rattle.mea_once_model.specs.declared.errand.Errand.TheVariants.{Calls, Computes, Alone, Sets, Inserts, Awaits}
 use Rattle.mea_once_model.specs.Cells.{Cell, CellFuture, Cells, Step, waiting_at, new_cell, passed, woken_next, given_up, filled, init_of, is_cell, futures_of}
-use Rattle.mea_once_model.specs.Actions.{Action, Make, Begin, Poll, Settle, End, TellFull, Tell, Peek, Put as Write, Take, TakeOut, Drop, act_in, registers_in, polled_in, ends_in, cause_in, in_the_way}
+use Rattle.mea_once_model.specs.Actions.{Action, Make, Begin, Poll, Settle, End, TellFull, Tell, Use, TakeOut, Drop, act_in, registers_in, polled_in, ends_in, cause_in, in_the_way}
 use Rattle.mea_once_model.proofs.Parts.{part_same, part_pushed, part_with, part_without, part_registering, part_settled, part_next, part_drained, behind, together}
 
 -- ---- what the laws on wakers look at of a future is its cell
@@ -204,10 +204,6 @@ module _ (h : Cells) (i : ℕ) (a : Action) where
       over = λ f is. absurd (none f is);
     }
 
-    puts : (o v : ℕ) (c : Cell) → get h.cells o ≡ Some c → (p : Option ℕ) → GoesTo 0 (cells.put_in h o v c p)
-    puts o v c there None = tells 0 (quietly h answers.Lacking) refl refl
-    puts o v c there (Some u) = turns o c (record c { value = Some v }) answers.Done there refl
-
     goes_out : (o : ℕ) (c : Cell) (reply : Answer) → get h.cells o ≡ Some c → (cause_in h a ≡ None → futures_of h o ≡ 0) → GoesTo 0 (cells.gone h o reply)
     goes_out o c reply there alone = record {
       k = i;
@@ -267,8 +263,7 @@ module _ (h : Cells) (i : ℕ) where
   goes (End k) = ends h i k (get h.futures k) refl
   goes (TellFull o) = by_cell (TellFull o) (λ f is. absurd (cc)) o _ (λ c there. tells h i (TellFull o) (λ f is. absurd (cc)) 0 (cells.tell_full h c) refl refl)
   goes (Tell o) = by_cell (Tell o) (λ f is. absurd (cc)) o _ (λ c there. tells h i (Tell o) (λ f is. absurd (cc)) 0 (cells.tell h c) refl refl)
-  goes (Peek o) = by_cell (Peek o) (λ f is. absurd (cc)) o _ (λ c there. tells h i (Peek o) (λ f is. absurd (cc)) 0 (cells.tell h c) refl refl)
-  goes (Write o v) = by_cell (Write o v) (λ f is. absurd (cc)) o _ (λ c there. puts h i (Write o v) (λ f is. absurd (cc)) o v c there c.value)
-  goes (Take o) = by_cell (Take o) (λ f is. absurd (cc)) o _ (λ c there. turns h i (Take o) (λ f is. absurd (cc)) o c (record c { value = None }) (content c.value) there refl)
+  goes (Use o u) = by_cell (Use o u) (λ f is. absurd (cc)) o _
+      (λ c there. turns h i (Use o u) (λ f is. absurd (cc)) o c (record c { value = cells.value_after u c.value }) (cells.reply_to u c.value) there refl)
   goes (TakeOut o) = by_cell (TakeOut o) (λ f is. absurd (cc)) o _ (λ c there. goes_out h i (TakeOut o) (λ f is. absurd (cc)) o c (content c.value) there (λ allowed. not_borrowed (is_cell h o) (futures_of h o) allowed))
   goes (Drop o) = by_cell (Drop o) (λ f is. absurd (cc)) o _ (λ c there. goes_out h i (Drop o) (λ f is. absurd (cc)) o c answers.Done there (λ allowed. not_borrowed (is_cell h o) (futures_of h o) allowed))

@@ -21,7 +21,7 @@ use Rattle.mea_once_model.specs.declared.errand.Initialiser.TheVariants.{Unsettl
 use Rattle.mea_once_model.specs.declared.errand.Errand.{Errand}
 use Rattle.mea_once_model.specs.declared.errand.Errand.TheVariants.{Calls, Computes, Alone, Sets, Inserts, Awaits}
 use Rattle.mea_once_model.specs.Cells.{Cell, CellFuture, Cells, Step, waiting_at, init_of, is_alone, is_future}
-use Rattle.mea_once_model.specs.Actions.{Action, Make, Begin, Poll, Settle, End, TellFull, Tell, Peek, Put, Take, TakeOut, Drop, act_in, polled_in, ends_in, cause_in}
+use Rattle.mea_once_model.specs.Actions.{Action, Make, Begin, Poll, Settle, End, TellFull, Tell, Use, TakeOut, Drop, act_in, polled_in, ends_in, cause_in}
 use Rattle.mea_once_model.proofs.Parts.{in_first, in_second, not_waiting}
 use Rattle.mea_once_model.proofs.Acting.{keys, owner, goes}
 
@@ -149,9 +149,7 @@ same_poll (Settle k r) f w P here is = absurd (cc)
 same_poll (End k) f w P here is = absurd (cc)
 same_poll (TellFull o) f w P here is = absurd (cc)
 same_poll (Tell o) f w P here is = absurd (cc)
-same_poll (Peek o) f w P here is = absurd (cc)
-same_poll (Put o v) f w P here is = absurd (cc)
-same_poll (Take o) f w P here is = absurd (cc)
+same_poll (Use o u) f w P here is = absurd (cc)
 same_poll (TakeOut o) f w P here is = absurd (cc)
 same_poll (Drop o) f w P here is = absurd (cc)
 

@@ -9,6 +9,7 @@ use Rattle.mea_family.specs.Family.{Outcome}
 use Rattle.mea_family.specs.Play.{found, content}
 use Rattle.mea_once_model.specs.declared.errand.Initialiser.{Initialiser}
 use Rattle.mea_once_model.specs.declared.errand.Errand.{Errand}
+use Rattle.mea_once_model.specs.declared.whole_use.WholeUse.{WholeUse}
 use Rattle.mea_once_model.specs.Cells as cells
 use Rattle.mea_once_model.specs.Cells.{Cells, is_cell, is_future, is_unsettled, is_alone, futures_of, alone_of}
 
@@ -24,10 +25,8 @@ pub data Action : Type 0 where
   -- it is told whether the cell is full, or what its value is
   TellFull : ℕ → Action
   Tell : ℕ → Action
-  -- the value of a cell that has no future is told, written, or taken out; or the cell goes with it
-  Peek : ℕ → Action
-  Put : ℕ → ℕ → Action
-  Take : ℕ → Action
+  -- the value of a cell that has no future is used; or the cell goes with it
+  Use : ℕ → WholeUse → Action
   TakeOut : ℕ → Action
   Drop : ℕ → Action
 
@@ -44,9 +43,7 @@ cause_in h (Settle f r) = unknown_unless (is_unsettled h f)
 cause_in h (End f) = unknown_unless (is_future h f)
 cause_in h (TellFull o) = borrowed_by (is_cell h o) (alone_of h o)
 cause_in h (Tell o) = borrowed_by (is_cell h o) (alone_of h o)
-cause_in h (Peek o) = borrowed_by (is_cell h o) (futures_of h o)
-cause_in h (Put o v) = borrowed_by (is_cell h o) (futures_of h o)
-cause_in h (Take o) = borrowed_by (is_cell h o) (futures_of h o)
+cause_in h (Use o u) = borrowed_by (is_cell h o) (futures_of h o)
 cause_in h (TakeOut o) = borrowed_by (is_cell h o) (futures_of h o)
 cause_in h (Drop o) = borrowed_by (is_cell h o) (futures_of h o)
 
@@ -59,9 +56,7 @@ act_in h i (Settle f r) = found (get h.futures f) h (λ x. found (get h.cells x.
 act_in h i (End f) = found (get h.futures f) h (λ x. cells.end_at h f x (get h.cells x.cell))
 act_in h i (TellFull o) = found (get h.cells o) h (cells.tell_full h)
 act_in h i (Tell o) = found (get h.cells o) h (cells.tell h)
-act_in h i (Peek o) = found (get h.cells o) h (cells.tell h)
-act_in h i (Put o v) = found (get h.cells o) h (λ c. cells.put_in h o v c c.value)
-act_in h i (Take o) = found (get h.cells o) h (cells.take_out h o)
+act_in h i (Use o u) = found (get h.cells o) h (cells.use_whole h o u)
 act_in h i (TakeOut o) = found (get h.cells o) h (λ c. cells.gone h o (content c.value))
 act_in h i (Drop o) = found (get h.cells o) h (λ c. cells.gone h o answers.Done)
 

@@ -9,6 +9,8 @@ use Rattle.mea_once_model.specs.declared.errand.Initialiser.{Initialiser}
 use Rattle.mea_once_model.specs.declared.errand.Initialiser.TheVariants.{Unsettled, Gives, Fails}
 use Rattle.mea_once_model.specs.declared.errand.Errand.{Errand}
 use Rattle.mea_once_model.specs.declared.errand.Errand.TheVariants.{Calls, Computes, Alone, Sets, Inserts, Awaits}
+use Rattle.mea_once_model.specs.declared.whole_use.WholeUse.{WholeUse}
+use Rattle.mea_once_model.specs.declared.whole_use.WholeUse.TheVariants.{Tells, Writes, Takes}
 use Rattle.mea_by_name.specs.ByName.{Names, names_code, own, count}
 use Rattle.mea_by_name.specs.NamedQueue as named_queue
 use Rattle.mea_by_name.specs.NamedQueue.{Waiting, waker_for, waits, with_waker, without, wakers, registering}
@@ -249,12 +251,22 @@ tell h c = quietly h (content c.value)
 abbrev pub tell_full : Cells → Cell → Outcome Cells
 tell_full h c = quietly h (if is_some c.value then answers.Yes else answers.No)
 
-abbrev pub put_in : Cells → ℕ → ℕ → Cell → Option ℕ → Outcome Cells
-put_in h o v c None = quietly h answers.Lacking
-put_in h o v c (Some u) = quietly (with_cell h o (record c { value = Some v })) answers.Done
+-- the value after a use of the whole cell
+abbrev pub value_after : WholeUse → Option ℕ → Option ℕ
+value_after Tells v = v
+value_after (Writes u) None = None
+value_after (Writes u) (Some v) = Some u
+value_after Takes v = None
 
-abbrev pub take_out : Cells → ℕ → Cell → Outcome Cells
-take_out h o c = quietly (with_cell h o (record c { value = None })) (content c.value)
+-- the reply to it
+abbrev pub reply_to : WholeUse → Option ℕ → Answer
+reply_to Tells v = content v
+reply_to (Writes u) None = answers.Lacking
+reply_to (Writes u) (Some v) = answers.Done
+reply_to Takes v = content v
+
+abbrev pub use_whole : Cells → ℕ → WholeUse → Cell → Outcome Cells
+use_whole h o u c = quietly (with_cell h o (record c { value = value_after u c.value })) (reply_to u c.value)
 
 -- it is gone
 abbrev pub gone : Cells → ℕ → Answer → Outcome Cells

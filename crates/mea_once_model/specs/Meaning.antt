@@ -6,8 +6,9 @@ use Rattle.mea_events.specs.declared.once_event.OnceEvent.{OnceEvent}
 use Rattle.mea_events.specs.declared.once_event.OnceEvent.TheVariants.{OnNew, OnDone, OnCall, OnWait, OnPoll, OnSettle, OnEnd, OnDrop, OcNew, OcFrom, OcGet, OcInit, OcSet, OcIns, OcMinit, OcPoll, OcSettle, OcFail, OcEnd, OcPeek, OcPut, OcTake, OcInto, OcDrop, OmNew, OmGet, OmCompute, OmPoll, OmSettle, OmFail, OmDiscard, OmRemove, OmEnd, OmDrop, SfNew, SfWork, SfPoll, SfSettle, SfFail, SfForget, SfEnd, SfDrop}
 use Rattle.mea_once_model.specs.declared.errand.Initialiser.TheVariants.{Unsettled, Gives, Fails}
 use Rattle.mea_once_model.specs.declared.errand.Errand.TheVariants.{Calls, Computes, Alone, Sets, Inserts, Awaits}
+use Rattle.mea_once_model.specs.declared.whole_use.WholeUse.TheVariants.{Tells, Writes, Takes}
 use Rattle.mea_once_model.specs.Cells.{Cells}
-use Rattle.mea_once_model.specs.Actions.{Action, Make, Begin, Poll, Settle, End, TellFull, Tell, Peek, Put, Take, TakeOut, Drop, cause_in, act_in, registers_in}
+use Rattle.mea_once_model.specs.Actions.{Action, Make, Begin, Poll, Settle, End, TellFull, Tell, Use, TakeOut, Drop, cause_in, act_in, registers_in}
 use Rattle.mea_once_model.specs.Tables.{Tables}
 use Rattle.mea_once_model.specs.KeyActions.{KeyAction, MakeTable, BeginKey, PollKey, SettleKey, EndKey, TellKey, DiscardKey, RemoveKey, DropTable, key_cause, key_act, key_registers}
 use Rattle.mea_once_model.specs.OnceHall.{OnceHall, Kind, Onces, OnceCells, TableKind, Maps, Groups, part, with_part, tables_of, with_tables, is_once}
@@ -60,9 +61,9 @@ meaning_of (OcPoll f w) = on_cells (Poll f w)
 meaning_of (OcSettle f v) = on_cells (Settle f (Gives v))
 meaning_of (OcFail f e) = on_cells (Settle f (Fails e))
 meaning_of (OcEnd f) = on_cells (End f)
-meaning_of (OcPeek c) = on_cells (Peek c)
-meaning_of (OcPut c v) = on_cells (Put c v)
-meaning_of (OcTake c) = on_cells (Take c)
+meaning_of (OcPeek c) = on_cells (Use c Tells)
+meaning_of (OcPut c v) = on_cells (Use c (Writes v))
+meaning_of (OcTake c) = on_cells (Use c Takes)
 meaning_of (OcInto c) = on_cells (TakeOut c)
 meaning_of (OcDrop c) = on_cells (Drop c)
 meaning_of OmNew = on_maps MakeTable
