@@ -7,7 +7,7 @@ use Rattle.std.proofs.lemmas.List.{length-append}
 use Rattle.mea_family.specs.Causes.{unknown_unless, borrowed_by}
 use Rattle.mea_family.specs.declared.answer.Answer.{Answer}
 use Rattle.mea_family.specs.declared.answer.Answer.TheVariants as answers
-use Rattle.mea_family.specs.Family.{Outcome, quietly}
+use Rattle.mea_family.specs.Family.{Outcome}
 use Rattle.mea_base.specs.Ready.{Waking}
 use Rattle.mea_base.specs.Totals.{total, weight}
 use Rattle.mea_base.proofs.Maps.{by_put, total-has, nothing_at, inside, removed_there}
@@ -28,9 +28,10 @@ use Rattle.mea_once_core.specs.declared.cell_stage.CellStage.TheVariants.{New}
 use Rattle.mea_once_model.specs.declared.errand.Initialiser.{Initialiser}
 use Rattle.mea_once_model.specs.declared.errand.Errand.{Errand}
 use Rattle.mea_once_model.specs.declared.errand.Errand.TheVariants.{Calls, Computes, Alone, Sets, Inserts, Awaits}
+use Rattle.mea_once_model.specs.declared.whole_use.WholeUse.{WholeUse}
 use Rattle.mea_once_model.specs.Cells as model
 use Rattle.mea_once_model.specs.Cells.{Cell, CellFuture, Cells, Step, is_cell, is_future, is_unsettled, settles_in, futures_of, alone_of, registered, waiting_at, is_alone, settled}
-use Rattle.mea_once_model.specs.Actions.{act_in, Make, Begin, Poll, Settle, End, TellFull, Tell, Peek, Put, Take, TakeOut, Drop, in_the_way}
+use Rattle.mea_once_model.specs.Actions.{act_in, Make, Begin, Poll, Settle, End, TellFull, Tell, Use, TakeOut, Drop, in_the_way}
 use Rattle.mea_once.specs.declared.future_entry.FutureEntry.{FutureEntry}
 use Rattle.mea_once.specs.Cores.{NamedCell, IsSoundCell}
 use Rattle.mea_once.specs.Entries.{KeptCell, begun, keeps, of_running, left_by}
@@ -256,9 +257,6 @@ module _ (once : Bool) {old : Part Cells} {i : ℕ} (s : Site once old i) where
     pub told : PartRests registered old i (act_in old.hall i (Tell o)) (content e.cell.value) (part_of s.es s.fs (i + 1))
     told = rests_as (λ h. act_in h i (Tell o)) _ _ s.es s.fs (found_cell _) refl refl refl refl refl
 
-    pub peeked : (AreKeptCells once (insert s.es o e) s.fs (i + 1)) × PartRests registered old i (act_in old.hall i (Peek o)) (content e.cell.value) (part_of (insert s.es o e) s.fs (i + 1))
-    peeked = rw (insert_same s.es o e there) (rests, rests_as (λ h. act_in h i (Peek o)) _ _ s.es s.fs (found_cell _) refl refl refl refl refl)
-
     -- ---- for who uses the whole cell
     module _ (alone : futures_of old.hall o ≡ 0) where
       pub nothing : e.futures ≡ 0
@@ -274,34 +272,17 @@ module _ (once : Bool) {old : Part Cells} {i : ℕ} (s : Site once old i) where
         tied = record { linked = its_kept.tied.linked; held = its_kept.tied.held; runner = its_kept.tied.runner; each = its_kept.tied.each; single = its_kept.tied.single; futures = its_kept.tied.futures; alone = its_kept.tied.alone };
       }
 
-      low_there : AreBelow e.cell.waits.wakers (i + 1)
-      low_there = low_old o e there
-
-      pub valued : (v : Option ℕ) → IsSoundCell (record e.cell { value = v }) → AreKeptCells once (insert s.es o (record e { cell = record e.cell { value = v } })) s.fs (i + 1)
-      valued v sound = turns (record e { cell = record e.cell { value = v } }) s.fs Stays (revalued v sound) (omega arith) low_there
-
-      pub taken : PartRests registered old i (act_in old.hall i (Take o)) (content e.cell.value) (part_of (insert s.es o (record e { cell = record e.cell { value = None } })) s.fs (i + 1))
-      taken = rests_as (λ h. act_in h i (Take o)) _ _ (insert s.es o (record e { cell = record e.cell { value = None } })) s.fs (found_cell _) refl (seen-insert cell_seen s.es o _) refl refl (let now = kept_now (record e { cell = record e.cell { value = None } }) in omega (arith, now))
-
-      pub put_full : (v : ℕ) → is_some e.cell.value ≡ true → PartRests registered old i (act_in old.hall i (Put o v)) answers.Done (part_of (insert s.es o (record e { cell = record e.cell { value = Some v } })) s.fs (i + 1))
-      put_full v full = rests_as (λ h. act_in h i (Put o v)) _ _ (insert s.es o (record e { cell = record e.cell { value = Some v } })) s.fs (found_cell _ ∙ by_value e.cell.value full) refl (seen-insert cell_seen s.es o _) refl refl (let now = kept_now (record e { cell = record e.cell { value = Some v } }) in omega (arith, now))
-        where
-          by_value : (u : Option ℕ) → is_some u ≡ true → model.put_in seen_all o v (cell_seen e) u ≡ quietly (model.with_cell seen_all o (record (cell_seen e) { value = Some v })) answers.Done
-          by_value None is = absurd (cc)
-          by_value (Some u) is = refl
-
-      pub put_empty : (v : ℕ) → is_some e.cell.value ≡ false → (AreKeptCells once (insert s.es o e) s.fs (i + 1)) × PartRests registered old i (act_in old.hall i (Put o v)) answers.Lacking (part_of (insert s.es o e) s.fs (i + 1))
-      put_empty v none = rw (insert_same s.es o e there) (rests, rests_as (λ h. act_in h i (Put o v)) _ _ s.es s.fs (found_cell _ ∙ by_value e.cell.value none) refl refl refl refl refl)
-        where
-          by_value : (u : Option ℕ) → is_some u ≡ false → model.put_in seen_all o v (cell_seen e) u ≡ quietly seen_all answers.Lacking
-          by_value None is = refl
-          by_value (Some u) is = absurd (cc)
-
-      -- it is written where there is a value
-      pub put_part : (v : ℕ) (b : Bool) (e' : KeptCell) → b ≡ is_some e.cell.value → (b ≡ true → e' ≡ record e { cell = record e.cell { value = Some v } }) → (is_some e.cell.value ≡ false → e' ≡ e) → IsSoundCell e'.cell
-          → (AreKeptCells once (insert s.es o e') s.fs (i + 1)) × PartRests registered old i (act_in old.hall i (Put o v)) (if b then answers.Done else answers.Lacking) (part_of (insert s.es o e') s.fs (i + 1))
-      put_part v true e' is full empty_is sound = rw (full refl) (valued (Some v) (subst (λ (e : KeptCell). IsSoundCell e.cell) (full refl) sound), put_full v (sym is))
-      put_part v false e' is full empty_is sound = rw (empty_is (sym is)) (put_empty v (sym is))
+      -- its value is used
+      pub used : (u : WholeUse) (e' : KeptCell) → e' ≡ record e { cell = record e.cell { value = model.value_after u e.cell.value } } → IsSoundCell e'.cell
+          → (AreKeptCells once (insert s.es o e') s.fs (i + 1)) × PartRests registered old i (act_in old.hall i (Use o u)) (model.reply_to u e.cell.value) (part_of (insert s.es o e') s.fs (i + 1))
+      used u e' is sound =
+          let v = model.value_after u e.cell.value in
+          let d : KeptCell = record e { cell = record e.cell { value = v } } in
+          let now = kept_now d in
+          rw is (
+            turns d s.fs Stays (revalued v (subst (λ (e : KeptCell). IsSoundCell e.cell) is sound)) (omega arith) (low_old o e there),
+            rests_as (λ h. act_in h i (Use o u)) _ _ (insert s.es o d) s.fs (found_cell _) refl (seen-insert cell_seen s.es o d) refl refl (omega (arith, now)),
+          )
 
       -- it is gone
       pub goes_kept : AreKeptCells once (remove s.es o) s.fs (i + 1)

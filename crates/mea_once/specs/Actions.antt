@@ -32,9 +32,7 @@ turn_action (Drop o) = cells.Drop o
 -- what is done to a cell alone
 abbrev pub whole_action : WholeAction → Action
 whole_action (whole.MakeFull v) = cells.Make (Some v)
-whole_action (whole.Peek o) = cells.Peek o
-whole_action (whole.Put o v) = cells.Put o v
-whole_action (whole.Take o) = cells.Take o
+whole_action (whole.Use o u) = cells.Use o u
 whole_action (whole.TakeOut o) = cells.TakeOut o
 
 -- what is done to a group, and may be done to a map

@@ -1,8 +1,9 @@
 -- the cells of one kind as the hall keeps them: what is seen of them, and what they keep to
-use Rattle.std.specs.Prelude.{ℕ, ◌≡◌, ◌+◌, ◌≤◌, ◌<◌, ◌==◌, ◌++◌, Bool, true, false, cond, [], ◌∷◌, Option, Some, None}
+use Rattle.std.specs.Prelude.{ℕ, ◌≡◌, ◌+◌, ◌≤◌, ◌<◌, ◌==◌, ◌++◌, Bool, true, false, cond, [], ◌∷◌, Option, Some, None, Result, Ok, Err}
 use Rattle.std.specs.Option.{option_map}
 use Rattle.std.specs.FinMap.{get, len, insert, remove, empty}
 use Rattle.mea_family.specs.declared.answer.Answer.{Answer}
+use Rattle.mea_base.specs.declared.no_memory.NoMemory.{NoMemory}
 use Rattle.mea_base.specs.Ready.{Waking}
 use Rattle.mea_by_name.specs.declared.named_waker.NamedWaker.{NamedWaker}
 use Rattle.mea_by_name.specs.ByName.{Names, seen, count}
@@ -21,10 +22,11 @@ use Rattle.mea_once_model.specs.declared.errand.Initialiser.{Initialiser}
 use Rattle.mea_once_model.specs.declared.errand.Initialiser.TheVariants.{Unsettled, Gives, Fails}
 use Rattle.mea_once_model.specs.declared.errand.Errand.{Errand}
 use Rattle.mea_once_model.specs.declared.errand.Errand.TheVariants.{Calls, Computes, Alone, Sets, Inserts, Awaits}
-use Rattle.mea_once_model.specs.Cells.{Cell, CellFuture, Cells, Step, is_alone}
+use Rattle.mea_once_model.specs.Cells.{Cell, CellFuture, Cells, Step, is_alone, poll}
 use Rattle.mea_once.specs.declared.future_entry.FutureEntry.{FutureEntry}
+use Rattle.mea_once.specs.declared.poll_reply.PollReply.{PollReply}
 use Rattle.mea_once.specs.Cores.{NamedCell, IsSoundCell}
-use Rattle.mea_once.specs.Entries.{KeptCell, keeps}
+use Rattle.mea_once.specs.Entries.{KeptCell, keeps, left_by}
 
 -- ---- what is seen of each thing
 abbrev pub is_polled : CellStage → Bool
@@ -168,6 +170,12 @@ pub record Stepped (once : Bool) (old : KeptCell) (fs : Names FutureEntry) (n f 
   pub kept : AreKept once new (turned_to fs f p)
   pub few : new.futures ≤ old.futures + 1
   pub low : AreBelow new.cell.waits.wakers n
+
+-- a poll of the future f with this waker: it made the step of the model, and told of it; or it wants memory, and nothing has changed
+abbrev pub PollsCell : Bool → KeptCell → ℕ → FutureEntry → ℕ → Waking ℕ → Result PollReply NoMemory → KeptCell → FutureEntry → Waking ℕ → Type 0
+PollsCell once e f x w before (Ok told) e' x' after =
+    (s : Stands once e f x) → Stepped once e s.fs s.n f x.cell (left_by told.over x') (poll f w (future_seen x) (cell_seen e)) told.answer e' before after
+PollsCell once e f x w before (Err none) e' x' after = (e' ≡ e) × (x' ≡ x) × (after ≡ before)
 
 abbrev pub of_future : FutureEntry → ℕ
 of_future x = x.cell

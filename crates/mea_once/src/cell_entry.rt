@@ -1,8 +1,8 @@
-ghost use Rattle.std.specs.Prelude.{ℕ, ◌≡◌, ◌+◌, ◌-◌, ◌<◌, ◌≤◌, ◌^◌, ◌++◌, [], nat_lt, length, map, cond, true, false, is_some, Some, None, IfOk, OnErr, if◌then◌else◌};
+ghost use Rattle.std.specs.Prelude.{ℕ, ◌≡◌, ◌+◌, ◌-◌, ◌<◌, ◌≤◌, ◌^◌, ◌++◌, [], nat_lt, length, map, cond, true, false, Some, None, if◌then◌else◌};
 ghost use Rattle.mea_sem_core.specs.Core.{held_of};
-ghost use Rattle.mea_once_model.specs.Cells.{init_of, is_alone, settled, poll, settle, end};
+ghost use Rattle.mea_once_model.specs.Cells.{init_of, is_alone, settled, settle, end, value_after, reply_to};
 ghost use Rattle.mea_once.specs.Cores.{IsSoundCell, TurnFits, TurnIsQuiet};
-ghost use Rattle.mea_once.specs.Parts.{cell_seen, future_seen, fits, is_caller, is_wait, Stands, Stepped};
+ghost use Rattle.mea_once.specs.Parts.{cell_seen, future_seen, fits, is_caller, is_wait, Stands, Stepped, PollsCell};
 
 use crate::errands::{found_full, has_filled, is_alone, is_wait, one_if_alone, settled};
 use crate::future_entry::FutureEntry;
@@ -13,7 +13,7 @@ use mea_base::{NoMemory, Poll, Ready};
 use mea_by_name::NamedWaker;
 use mea_family::Answer;
 use mea_once_core::{CellTurn, Init};
-use mea_once_model::{Errand, Initialiser};
+use mea_once_model::{Errand, Initialiser, WholeUse};
 use std::marker::Model;
 
 // A poll that goes on waiting.
@@ -44,7 +44,7 @@ impl<C: TurnCore> Model for CellEntry<C> {
 }
 
 impl<C: TurnCore> CellEntry<C> {
-    ghost use Rattle.mea_once.specs.Entries.{begun, finished, stopped, waking, runs, of_running, keeps, HandsOn, Ran, Follows, left_by};
+    ghost use Rattle.mea_once.specs.Entries.{begun, finished, stopped, waking, runs, of_running, keeps, HandsOn, Ran, Follows};
 
     /// A cell that has no future.
     pub fn new(core: C) -> Self
@@ -223,10 +223,7 @@ impl<C: TurnCore> CellEntry<C> {
         requires stands { Stands C.is_once self.old f future.old }
         requires caller { is_caller future.old.errand ≡ true }
         requires room { keeps self.old ≤ ready.old.registered }
-        ensures steps { IfOk result (λ told. (s : Stands C.is_once self.old f future.old) →
-            Stepped C.is_once self.old s.fs s.n f future.old.cell (left_by told.over future.new)
-            (poll f waker (future_seen future.old) (cell_seen self.old)) told.answer self.new ready.old ready.new) }
-        ensures err { OnErr result ((self.new ≡ self.old) × (future.new ≡ future.old) × (ready.new ≡ ready.old)) }
+        ensures { PollsCell C.is_once self.old f future.old waker ready.old result self.new future.new ready.new }
     {
         let named = NamedWaker { future: f, waker };
         if self.runs(f) {
@@ -304,7 +301,7 @@ fn wait_told(over: bool) -> PollReply
 }
 
 impl<C: WaitCore> CellEntry<C> {
-    ghost use Rattle.mea_once.specs.Entries.{finished, stopped, keeps, left_by};
+    ghost use Rattle.mea_once.specs.Entries.{finished, stopped, keeps};
 
     // One future less, where it is over.
     fn finish_if(&mut self, f: u64, errand: Errand, over: bool)
@@ -327,10 +324,7 @@ impl<C: WaitCore> CellEntry<C> {
     ) -> Result<PollReply, NoMemory>
         requires stands { Stands C.TurnCore.is_once self.old f future.old }
         requires room { keeps self.old ≤ ready.old.registered }
-        ensures steps { IfOk result (λ told. (s : Stands C.TurnCore.is_once self.old f future.old) →
-            Stepped C.TurnCore.is_once self.old s.fs s.n f future.old.cell (left_by told.over future.new)
-            (poll f waker (future_seen future.old) (cell_seen self.old)) told.answer self.new ready.old ready.new) }
-        ensures err { OnErr result ((self.new ≡ self.old) × (future.new ≡ future.old) × (ready.new ≡ ready.old)) }
+        ensures { PollsCell C.TurnCore.is_once self.old f future.old waker ready.old result self.new future.new ready.new }
     {
         if is_wait(future.errand) {
             self.poll_wait(f, future, waker, ready)
@@ -350,10 +344,7 @@ impl<C: WaitCore> CellEntry<C> {
         requires stands { Stands C.TurnCore.is_once self.old f future.old }
         requires wait { is_wait future.old.errand ≡ true }
         requires room { keeps self.old ≤ ready.old.registered }
-        ensures steps { IfOk result (λ told. (s : Stands C.TurnCore.is_once self.old f future.old) →
-            Stepped C.TurnCore.is_once self.old s.fs s.n f future.old.cell (left_by told.over future.new)
-            (poll f waker (future_seen future.old) (cell_seen self.old)) told.answer self.new ready.old ready.new) }
-        ensures err { OnErr result ((self.new ≡ self.old) × (future.new ≡ future.old) × (ready.new ≡ ready.old)) }
+        ensures { PollsCell C.TurnCore.is_once self.old f future.old waker ready.old result self.new future.new ready.new }
     {
         let Ok(()) = ready.register() else {
             return Err(NoMemory);
@@ -373,7 +364,7 @@ impl<C: WaitCore> CellEntry<C> {
 }
 
 impl<C: WholeCore> CellEntry<C> {
-    ghost use Rattle.mea_once.specs.Entries.{keeps, left_by, RanAlone};
+    ghost use Rattle.mea_once.specs.Entries.{keeps, RanAlone};
 
     // The initialiser of a future that uses the cell alone runs, where that is empty.
     fn run_alone(&mut self, errand: Errand, waker: NamedWaker) -> PollReply
@@ -419,10 +410,7 @@ impl<C: WholeCore> CellEntry<C> {
     ) -> Result<PollReply, NoMemory>
         requires stands { Stands C.TurnCore.is_once self.old f future.old }
         requires room { keeps self.old ≤ ready.old.registered }
-        ensures steps { IfOk result (λ told. (s : Stands C.TurnCore.is_once self.old f future.old) →
-            Stepped C.TurnCore.is_once self.old s.fs s.n f future.old.cell (left_by told.over future.new)
-            (poll f waker (future_seen future.old) (cell_seen self.old)) told.answer self.new ready.old ready.new) }
-        ensures err { OnErr result ((self.new ≡ self.old) × (future.new ≡ future.old) × (ready.new ≡ ready.old)) }
+        ensures { PollsCell C.TurnCore.is_once self.old f future.old waker ready.old result self.new future.new ready.new }
     {
         if is_alone(future.errand) {
             self.poll_alone(f, future, waker, ready)
@@ -442,10 +430,7 @@ impl<C: WholeCore> CellEntry<C> {
         requires stands { Stands C.TurnCore.is_once self.old f future.old }
         requires alone { is_alone future.old.errand ≡ true }
         requires room { keeps self.old ≤ ready.old.registered }
-        ensures steps { IfOk result (λ told. (s : Stands C.TurnCore.is_once self.old f future.old) →
-            Stepped C.TurnCore.is_once self.old s.fs s.n f future.old.cell (left_by told.over future.new)
-            (poll f waker (future_seen future.old) (cell_seen self.old)) told.answer self.new ready.old ready.new) }
-        ensures err { OnErr result ((self.new ≡ self.old) × (future.new ≡ future.old) × (ready.new ≡ ready.old)) }
+        ensures { PollsCell C.TurnCore.is_once self.old f future.old waker ready.old result self.new future.new ready.new }
     {
         let named = NamedWaker { future: f, waker };
         if self.runs(f) {
@@ -462,34 +447,14 @@ impl<C: WholeCore> CellEntry<C> {
         Ok(told)
     }
 
-    /// The value, for who uses the whole cell.
-    pub fn peek(&mut self) -> Option<u64>
+    /// Uses the value, for who has the whole cell, and replies.
+    pub fn use_whole(&mut self, what: WholeUse) -> Answer
         requires { self.old.cell.permit.free ≡ 1 }
-        ensures value { result ≡ self.old.cell.value }
-        ensures same { self.new ≡ self.old }
-    {
-        self.core.whole_value()
-    }
-
-    /// Writes the value where there is one, and tells whether there is.
-    pub fn put(&mut self, value: u64) -> bool
-        requires { self.old.cell.permit.free ≡ 1 }
-        ensures told { result ≡ is_some self.old.cell.value }
-        ensures full { result ≡ true → self.new ≡ record self.old { cell = record self.old.cell { value = Some value } } }
-        ensures empty { is_some self.old.cell.value ≡ false → self.new ≡ self.old }
+        ensures reply { result ≡ reply_to what self.old.cell.value }
+        ensures is { self.new ≡ record self.old { cell = record self.old.cell { value = value_after what self.old.cell.value } } }
         ensures sound { IsSoundCell self.new.cell }
     {
-        self.core.set_value(value)
-    }
-
-    /// Takes the value out.
-    pub fn take(&mut self) -> Option<u64>
-        requires { self.old.cell.permit.free ≡ 1 }
-        ensures value { result ≡ self.old.cell.value }
-        ensures is { self.new ≡ record self.old { cell = record self.old.cell { value = None } } }
-        ensures sound { IsSoundCell self.new.cell }
-    {
-        self.core.take_value()
+        self.core.use_whole(what)
     }
 
     /// The value, with which the cell ends.

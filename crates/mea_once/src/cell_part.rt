@@ -1,7 +1,7 @@
 ghost use Rattle.std.specs.Prelude.{◌≡◌, ◌≢◌, ◌≤◌, IfSome, is_some, Some, true};
 ghost use Rattle.mea_family.specs.Causes.{borrowed_by};
 ghost use Rattle.mea_once_model.specs.Cells.{no_cells, is_cell, is_future, is_unsettled, futures_of, alone_of, registered};
-ghost use Rattle.mea_once_model.specs.Actions.{cause_in, Make, Begin, Poll, Settle, End, TellFull, Tell, Peek, Put, Take, TakeOut, Drop, in_the_way};
+ghost use Rattle.mea_once_model.specs.Actions.{cause_in, Make, Begin, Poll, Settle, End, TellFull, Tell, Use, TakeOut, Drop, in_the_way};
 ghost use Rattle.mea_once_model.specs.Valid.{HasCells};
 ghost use Rattle.mea_once.specs.Parts.{IsNewCell, fits, FitsSettled};
 ghost use Rattle.mea_once.specs.Actions.{turn_action, whole_action, FitsTurn};
@@ -10,7 +10,7 @@ ghost use Rattle.mea_once.specs.Lends.{StandsFor};
 
 use crate::actions::{TurnAction, WholeAction};
 use crate::cell_entry::CellEntry;
-use crate::errands::{can_settle, content, done_if, yes_if_full};
+use crate::errands::{can_settle, content, yes_if_full};
 use crate::future_entry::FutureEntry;
 use crate::polled_core::PolledCore;
 use crate::turn_core::{TurnCore, WholeCore};
@@ -19,7 +19,7 @@ use mea_by_name::ByName;
 use mea_family::{Answer, Stop, borrowed_if, unknown_unless};
 use mea_meet_core::LatchWait;
 use mea_once_core::CellStage;
-use mea_once_model::{Errand, Initialiser};
+use mea_once_model::{Errand, Initialiser, WholeUse};
 use std::alloc::Global;
 use std::marker::Model;
 
@@ -326,8 +326,7 @@ impl<C: WholeCore> CellPart<C> {
     {
         match action {
             WholeAction::MakeFull(_) => None,
-            WholeAction::Peek(o) | WholeAction::Put(o, _) => self.cause_of_whole(o),
-            WholeAction::Take(o) | WholeAction::TakeOut(o) => self.cause_of_whole(o),
+            WholeAction::Use(o, _) | WholeAction::TakeOut(o) => self.cause_of_whole(o),
         }
     }
 
@@ -344,17 +343,15 @@ impl<C: WholeCore> CellPart<C> {
     {
         match action {
             WholeAction::MakeFull(value) => self.make(number, C::full(self.alloc, value)),
-            WholeAction::Peek(o) => self.peek(number, o),
-            WholeAction::Put(o, value) => self.put(number, o, value),
-            WholeAction::Take(o) => self.take(number, o),
+            WholeAction::Use(o, what) => self.use_whole(number, o, what),
             WholeAction::TakeOut(o) => self.take_out(number, o, ready),
         }
     }
 
-    // Tells the value of a cell that has no future. It takes no memory.
-    fn peek(&mut self, number: u64, o: u64) -> Result<Answer, Stop>
+    // Uses the value of a cell that has no future. It takes no memory.
+    fn use_whole(&mut self, number: u64, o: u64, what: WholeUse) -> Result<Answer, Stop>
         requires { self.old.next ≤ number }
-        ensures { CellActsQuietly self.old number (Peek o) result self.new }
+        ensures { CellActsQuietly self.old number (Use o what) result self.new }
     {
         let Some(entry) = self.cells.get_mut(o) else {
             return Err(Stop::Unknown);
@@ -362,41 +359,9 @@ impl<C: WholeCore> CellPart<C> {
         if entry.has_futures() {
             return Err(Stop::Borrowed);
         }
-        let value = entry.peek();
+        let answer = entry.use_whole(what);
         self.next = number as u128 + 1;
-        Ok(content(value))
-    }
-
-    // Writes the value of a cell that has no future, where there is one. It takes no memory.
-    fn put(&mut self, number: u64, o: u64, value: u64) -> Result<Answer, Stop>
-        requires { self.old.next ≤ number }
-        ensures { CellActsQuietly self.old number (Put o value) result self.new }
-    {
-        let Some(entry) = self.cells.get_mut(o) else {
-            return Err(Stop::Unknown);
-        };
-        if entry.has_futures() {
-            return Err(Stop::Borrowed);
-        }
-        let full = entry.put(value);
-        self.next = number as u128 + 1;
-        Ok(done_if(full))
-    }
-
-    // Takes the value out of a cell that has no future. It takes no memory.
-    fn take(&mut self, number: u64, o: u64) -> Result<Answer, Stop>
-        requires { self.old.next ≤ number }
-        ensures { CellActsQuietly self.old number (Take o) result self.new }
-    {
-        let Some(entry) = self.cells.get_mut(o) else {
-            return Err(Stop::Unknown);
-        };
-        if entry.has_futures() {
-            return Err(Stop::Borrowed);
-        }
-        let value = entry.take();
-        self.next = number as u128 + 1;
-        Ok(content(value))
+        Ok(answer)
     }
 
     // Ends a cell that has no future, with its value. It takes no memory.

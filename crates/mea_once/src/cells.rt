@@ -1,8 +1,16 @@
+ghost use Rattle.std.specs.Prelude.{◌≡◌};
+ghost use Rattle.mea_once.specs.Cores.{cell_seen, IsSoundCell};
+ghost use Rattle.mea_once_model.specs.declared.whole_use.WholeUse.TheVariants.{Writes};
+ghost use Rattle.mea_once_model.specs.Cells.{value_after, reply_to};
+
+use crate::errands::content;
 use crate::scripted::Scripted;
 use crate::turn_core::{TurnCore, WholeCore};
 use mea_base::{NoMemory, Poll};
 use mea_by_name::NamedWaker;
+use mea_family::Answer;
 use mea_once_core::{CellCore, CellStage, CellTurn, InitCall};
+use mea_once_model::WholeUse;
 use std::alloc::Global;
 
 impl TurnCore for CellCore<u64, NamedWaker> {
@@ -75,29 +83,32 @@ impl WholeCore for CellCore<u64, NamedWaker> {
         CellCore::poll_mut(self, init, waker)
     }
 
-    fn whole_value(&mut self) -> Option<u64> {
-        match CellCore::get_mut(self) {
-            Some(value) => Some(*value),
-            None => None,
+    fn use_whole(&mut self, what: WholeUse) -> Answer {
+        match what {
+            WholeUse::Tells => content(self.value()),
+            WholeUse::Writes(value) => write_value(self, value),
+            WholeUse::Takes => content(CellCore::take(self)),
         }
-    }
-
-    fn set_value(&mut self, value: u64) -> bool {
-        let _ = CellCore::is_full(self);
-        match CellCore::get_mut(self) {
-            Some(there) => {
-                *there = value;
-                true
-            }
-            None => false,
-        }
-    }
-
-    fn take_value(&mut self) -> Option<u64> {
-        CellCore::take(self)
     }
 
     fn into_value(self) -> Option<u64> {
         CellCore::into_inner(self)
+    }
+}
+
+// Writes the value of a cell where there is one.
+fn write_value(core: &mut CellCore<u64, NamedWaker>, value: u64) -> Answer
+    requires { core.old.permit.free ≡ 1 }
+    ensures reply { result ≡ reply_to (Writes value) core.old.value }
+    ensures is { core.new ≡ record core.old { value = value_after (Writes value) core.old.value } }
+    ensures sound { IsSoundCell (cell_seen core.new) }
+{
+    let _ = CellCore::is_full(core);
+    match CellCore::get_mut(core) {
+        Some(there) => {
+            *there = value;
+            Answer::Done
+        }
+        None => Answer::Lacking,
     }
 }

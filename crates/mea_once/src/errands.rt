@@ -112,10 +112,3 @@ pub fn yes_if_full(value: Option<u64>) -> Answer
         None => Answer::No,
     }
 }
-
-/// The reply to what is done where there is a value.
-pub fn done_if(full: bool) -> Answer
-    ensures { result ≡ (if full then Answer.Done else Answer.Lacking) }
-{
-    if full { Answer::Done } else { Answer::Lacking }
-}

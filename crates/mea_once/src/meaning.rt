@@ -4,7 +4,7 @@ ghost use Rattle.mea_once.specs.Actions.{meant, FitsMeaning};
 
 use crate::actions::{TableAction, TurnAction, ValueAction, WholeAction};
 use mea_events::OnceEvent;
-use mea_once_model::{Errand, Initialiser};
+use mea_once_model::{Errand, Initialiser, WholeUse};
 
 /// What a line does, and to which kind of things.
 #[derive(Clone, Copy)]
@@ -57,9 +57,9 @@ pub fn meaning_of(event: &OnceEvent) -> Meaning
         OnceEvent::OcSettle(f, v) => Meaning::Cells(TurnAction::Settle(f, Initialiser::Gives(v))),
         OnceEvent::OcFail(f, e) => Meaning::Cells(TurnAction::Settle(f, Initialiser::Fails(e))),
         OnceEvent::OcEnd(f) => Meaning::Cells(TurnAction::End(f)),
-        OnceEvent::OcPeek(c) => Meaning::CellsAlone(WholeAction::Peek(c)),
-        OnceEvent::OcPut(c, v) => Meaning::CellsAlone(WholeAction::Put(c, v)),
-        OnceEvent::OcTake(c) => Meaning::CellsAlone(WholeAction::Take(c)),
+        OnceEvent::OcPeek(c) => Meaning::CellsAlone(WholeAction::Use(c, WholeUse::Tells)),
+        OnceEvent::OcPut(c, v) => Meaning::CellsAlone(WholeAction::Use(c, WholeUse::Writes(v))),
+        OnceEvent::OcTake(c) => Meaning::CellsAlone(WholeAction::Use(c, WholeUse::Takes)),
         OnceEvent::OcInto(c) => Meaning::CellsAlone(WholeAction::TakeOut(c)),
         OnceEvent::OcDrop(c) => Meaning::Cells(TurnAction::Drop(c)),
         OnceEvent::OmNew => Meaning::Maps(TableAction::Make),

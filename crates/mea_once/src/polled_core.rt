@@ -1,7 +1,6 @@
-ghost use Rattle.std.specs.Prelude.{◌≡◌, ◌≤◌, IfOk, OnErr};
-ghost use Rattle.mea_once_model.specs.Cells.{poll};
-ghost use Rattle.mea_once.specs.Entries.{keeps, left_by};
-ghost use Rattle.mea_once.specs.Parts.{cell_seen, future_seen, Stands, Stepped};
+ghost use Rattle.std.specs.Prelude.{◌≤◌};
+ghost use Rattle.mea_once.specs.Entries.{keeps};
+ghost use Rattle.mea_once.specs.Parts.{Stands, PollsCell};
 
 use crate::cell_entry::CellEntry;
 use crate::future_entry::FutureEntry;
@@ -24,10 +23,7 @@ pub trait PolledCore: TurnCore {
     ) -> Result<PollReply, NoMemory>
         requires stands { Stands Self.is_once entry.old f future.old }
         requires room { keeps entry.old ≤ ready.old.registered }
-        ensures steps { IfOk result (λ told. (s : Stands Self.is_once entry.old f future.old) →
-            Stepped Self.is_once entry.old s.fs s.n f future.old.cell (left_by told.over future.new)
-            (poll f waker (future_seen future.old) (cell_seen entry.old)) told.answer entry.new ready.old ready.new) }
-        ensures err { OnErr result ((entry.new ≡ entry.old) × (future.new ≡ future.old) × (ready.new ≡ ready.old)) };
+        ensures { PollsCell Self.is_once entry.old f future.old waker ready.old result entry.new future.new ready.new };
 }
 
 impl PolledCore for OnceCore<NamedWaker> {
