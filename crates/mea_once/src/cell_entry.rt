@@ -4,7 +4,7 @@ ghost use Rattle.mea_once_model.specs.Cells.{init_of, is_alone, settled, settle,
 ghost use Rattle.mea_once.specs.Cores.{IsSoundCell, TurnFits, TurnIsQuiet};
 ghost use Rattle.mea_once.specs.Parts.{cell_seen, future_seen, fits, is_caller, is_wait, Stands, Stepped, PollsCell};
 
-use crate::errands::{found_full, has_filled, is_alone, is_wait, one_if_alone, settled};
+use crate::errands::{found_full, has_filled, is_alone, one_if_alone, settled};
 use crate::future_entry::FutureEntry;
 use crate::poll_reply::PollReply;
 use crate::scripted::Scripted;
@@ -212,8 +212,8 @@ impl<C: TurnCore> CellEntry<C> {
         }
     }
 
-    // Polls a caller, which is named `f`. On an error nothing has changed.
-    fn poll_call(
+    /// Polls a caller, which is named `f`. On an error nothing has changed.
+    pub fn poll_call(
         &mut self,
         f: u64,
         future: &mut FutureEntry,
@@ -314,27 +314,8 @@ impl<C: WaitCore> CellEntry<C> {
         }
     }
 
-    /// Polls a future, which is named `f`: a wait, or a caller. On an error nothing has changed.
-    pub fn poll_wait_or_call(
-        &mut self,
-        f: u64,
-        future: &mut FutureEntry,
-        waker: u64,
-        ready: &mut Ready<u64>,
-    ) -> Result<PollReply, NoMemory>
-        requires stands { Stands C.TurnCore.is_once self.old f future.old }
-        requires room { keeps self.old ≤ ready.old.registered }
-        ensures { PollsCell C.TurnCore.is_once self.old f future.old waker ready.old result self.new future.new ready.new }
-    {
-        if is_wait(future.errand) {
-            self.poll_wait(f, future, waker, ready)
-        } else {
-            self.poll_call(f, future, waker, ready)
-        }
-    }
-
-    // Polls a wait, which is named `f`. On an error nothing has changed.
-    fn poll_wait(
+    /// Polls a wait, which is named `f`. On an error nothing has changed.
+    pub fn poll_wait(
         &mut self,
         f: u64,
         future: &mut FutureEntry,
@@ -400,27 +381,8 @@ impl<C: WholeCore> CellEntry<C> {
         }
     }
 
-    /// Polls a future, which is named `f`: one that uses the cell alone, or a caller. On an error nothing has changed.
-    pub fn poll_alone_or_call(
-        &mut self,
-        f: u64,
-        future: &mut FutureEntry,
-        waker: u64,
-        ready: &mut Ready<u64>,
-    ) -> Result<PollReply, NoMemory>
-        requires stands { Stands C.TurnCore.is_once self.old f future.old }
-        requires room { keeps self.old ≤ ready.old.registered }
-        ensures { PollsCell C.TurnCore.is_once self.old f future.old waker ready.old result self.new future.new ready.new }
-    {
-        if is_alone(future.errand) {
-            self.poll_alone(f, future, waker, ready)
-        } else {
-            self.poll_call(f, future, waker, ready)
-        }
-    }
-
-    // Polls a future that uses the cell alone, which is named `f`. On an error nothing has changed.
-    fn poll_alone(
+    /// Polls a future that uses the cell alone, which is named `f`. On an error nothing has changed.
+    pub fn poll_alone(
         &mut self,
         f: u64,
         future: &mut FutureEntry,

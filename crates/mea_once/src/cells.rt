@@ -71,10 +71,6 @@ impl TurnCore for CellCore<u64, NamedWaker> {
 }
 
 impl WholeCore for CellCore<u64, NamedWaker> {
-    ghost use Rattle.std.specs.Prelude.{refl};
-
-    ghost fills = { refl };
-
     fn full(alloc: Global, value: u64) -> Self {
         CellCore::from_value(alloc, value)
     }

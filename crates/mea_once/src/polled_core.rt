@@ -3,6 +3,7 @@ ghost use Rattle.mea_once.specs.Entries.{keeps};
 ghost use Rattle.mea_once.specs.Parts.{Stands, PollsCell};
 
 use crate::cell_entry::CellEntry;
+use crate::errands::{is_alone, is_wait};
 use crate::future_entry::FutureEntry;
 use crate::poll_reply::PollReply;
 use crate::turn_core::TurnCore;
@@ -34,7 +35,11 @@ impl PolledCore for OnceCore<NamedWaker> {
         waker: u64,
         ready: &mut Ready<u64>,
     ) -> Result<PollReply, NoMemory> {
-        entry.poll_wait_or_call(f, future, waker, ready)
+        if is_wait(future.errand) {
+            entry.poll_wait(f, future, waker, ready)
+        } else {
+            entry.poll_call(f, future, waker, ready)
+        }
     }
 }
 
@@ -46,6 +51,10 @@ impl PolledCore for CellCore<u64, NamedWaker> {
         waker: u64,
         ready: &mut Ready<u64>,
     ) -> Result<PollReply, NoMemory> {
-        entry.poll_alone_or_call(f, future, waker, ready)
+        if is_alone(future.errand) {
+            entry.poll_alone(f, future, waker, ready)
+        } else {
+            entry.poll_call(f, future, waker, ready)
+        }
     }
 }

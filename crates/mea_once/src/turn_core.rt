@@ -90,9 +90,6 @@ pub trait WaitCore: TurnCore {
         ensures polls { IfOk result (λ over. WaitsCell (Self.seen_as self.old) wait.old waker over (Self.seen_as self.new) wait.new) }
         ensures sound { IsSoundCell (Self.seen_as self.new) }
         ensures err { OnErr result ((self.new ≡ self.old) × (wait.new ≡ wait.old)) };
-
-    // It is a call that runs once.
-    ghost runs_once: { Self.is_once ≡ true };
 }
 
 /// The core of a cell, for who uses it alone.
@@ -121,7 +118,4 @@ pub trait WholeCore: TurnCore {
     fn into_value(self) -> Option<u64>
         requires { (Self.seen_as self).permit.free ≡ 1 }
         ensures { result ≡ (Self.seen_as self).value };
-
-    // It is a cell.
-    ghost fills: { Self.is_once ≡ false };
 }
