@@ -6,7 +6,7 @@ ghost use Rattle.mea_once.specs.Parts.{cell_seen, future_seen, fits, is_caller, 
 
 use crate::errands::{found_full, has_filled, is_alone, one_if_alone, settled};
 use crate::future_entry::FutureEntry;
-use crate::poll_reply::PollReply;
+use crate::poll_reply::{PENDING, PollReply};
 use crate::scripted::Scripted;
 use crate::turn_core::{TurnCore, WaitCore, WholeCore};
 use mea_base::{NoMemory, Poll, Ready};
@@ -15,12 +15,6 @@ use mea_family::Answer;
 use mea_once_core::{CellTurn, Init};
 use mea_once_model::{Errand, Initialiser, WholeUse};
 use std::marker::Model;
-
-// A poll that goes on waiting.
-const PENDING: PollReply = PollReply {
-    answer: Answer::Pending,
-    over: false,
-};
 
 /// What a hall keeps of a cell.
 #[derive(Drop)]
