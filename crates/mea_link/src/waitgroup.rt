@@ -41,10 +41,7 @@ impl<W: Wake> WaitGroup<W> {
         let WaitGroup { group } = self;
         let made = group.lock(rt).decrement(1);
         hand_out(made, || group.lock(rt).next_wake());
-        Wait {
-            group,
-            place: None,
-        }
+        Wait { group, place: None }
     }
 }
 

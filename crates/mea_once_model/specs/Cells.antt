@@ -307,24 +307,24 @@ errand_number (Sets v) = (3, (Unsettled, v))
 errand_number (Inserts v) = (4, (Unsettled, v))
 errand_number Awaits = (5, (Unsettled, 0))
 
-abbrev pub job_of_number : ℕ × (Initialiser × ℕ) → Errand
-job_of_number (zero, p) = Calls p.0
-job_of_number (suc zero, p) = Computes p.0
-job_of_number (suc (suc zero), p) = Alone p.0
-job_of_number (suc (suc (suc zero)), p) = Sets p.1
-job_of_number (suc (suc (suc (suc zero))), p) = Inserts p.1
-job_of_number (suc (suc (suc (suc (suc n)))), p) = Awaits
+abbrev pub errand_of_number : ℕ × (Initialiser × ℕ) → Errand
+errand_of_number (zero, p) = Calls p.0
+errand_of_number (suc zero, p) = Computes p.0
+errand_of_number (suc (suc zero), p) = Alone p.0
+errand_of_number (suc (suc (suc zero)), p) = Sets p.1
+errand_of_number (suc (suc (suc (suc zero))), p) = Inserts p.1
+errand_of_number (suc (suc (suc (suc (suc n)))), p) = Awaits
 
-pub job_back : (j : Errand) → job_of_number (errand_number j) ≡ j
-job_back (Calls i) = refl
-job_back (Computes i) = refl
-job_back (Alone i) = refl
-job_back (Sets v) = refl
-job_back (Inserts v) = refl
-job_back Awaits = refl
+pub errand_back : (x : Errand) → errand_of_number (errand_number x) ≡ x
+errand_back (Calls i) = refl
+errand_back (Computes i) = refl
+errand_back (Alone i) = refl
+errand_back (Sets v) = refl
+errand_back (Inserts v) = refl
+errand_back Awaits = refl
 
 abbrev pub errand_code : Coded Errand
-errand_code = code_by (ℕ × (Initialiser × ℕ)) (coded× coded_ℕ (coded× init_code coded_ℕ)) errand_number job_of_number job_back
+errand_code = code_by (ℕ × (Initialiser × ℕ)) (coded× coded_ℕ (coded× init_code coded_ℕ)) errand_number errand_of_number errand_back
 
 abbrev pub future_code : Coded CellFuture
 future_code = code_by (ℕ × (Errand × Bool)) (coded× coded_ℕ (coded× errand_code coded_bool)) (λ x. (x.cell, (x.errand, x.polled))) (λ p. record { cell = p.0; errand = p.1.0; polled = p.1.1 }) (λ _. refl)

@@ -48,10 +48,7 @@ impl<W: Wake, H: Holds<Once<W>>> CallClaiming<H, W> {
 impl<'a, W: Wake> OnceWait<'a, W> {
     // A wait that was never polled.
     pub(super) fn of(of: &'a Once<W>) -> Self {
-        OnceWait {
-            of,
-            place: None,
-        }
+        OnceWait { of, place: None }
     }
 }
 
