@@ -2,7 +2,7 @@
 use Rattle.std.proofs.Common.{◌≡◌, ℕ, ◌+◌, ◌<◌, ◌≤◌, ◌==◌, Bool, true, false, cond, Option, Some, None, IsSome, refl, ap, sym, subst, ◌∙◌, arith}
 use Rattle.std.specs.FinMap.{empty, get, insert, remove, len, len-empty}
 use Rattle.std.specs.Ordering.{nat_cmp}
-use Rattle.mea_base.proofs.Maps.{by_put, by_gone, is_there, is_absent, nothing_there}
+use Rattle.mea_base.proofs.Maps.{by_put, by_gone, is_there, nothing_there}
 use Rattle.mea_by_name.specs.ByName.{Names}
 use Rattle.mea_by_name.proofs.Own.{len-new}
 use Rattle.mea_share_core.proofs.Kept.{len-fewer}
@@ -12,6 +12,7 @@ use Rattle.mea_meet_core.specs.Count.{increased}
 use Rattle.mea_meet_core.specs.Shutdown.{Shutdown}
 use Rattle.mea_job_core.specs.Parts.{IsCounted, IsShut}
 use Rattle.mea_job_core.proofs.Nexts.{next_there}
+use Rattle.mea_job_core.proofs.Views.{not_there}
 
 some_before : {X : Type 0} (m : Names X) (k : ℕ) (n : ℕ) → ((a : ℕ) → IsSome (get m a) → a < n) → (a : ℕ) → IsSome (get (remove m k) a) → a < n
 some_before m k n above a some = by_gone m k (λ b o. IsSome o → b < n) (λ is. absurd (cc)) (λ b apart is. above b is) a some
@@ -78,9 +79,6 @@ recalled_counted w k waiting next finished returned some still counted =
     }
 
 -- ---- a job is accepted
-not_in : {X : Type 0} (m : Names X) (n : ℕ) → ((a : ℕ) → IsSome (get m a) → a < n) → get m n ≡ None
-not_in m n above = is_absent (get m n) (λ some. absurd (let low = above n some in omega (arith, low)))
-
 later : {X : Type 0} (m : Names X) (n o : ℕ) → n ≤ o → ((a : ℕ) → IsSome (get m a) → a < n) → (a : ℕ) → IsSome (get m a) → a < o
 later m n o le above a some = let low = above a some in omega (arith, low, le)
 
@@ -95,8 +93,8 @@ module _ (w : Work) (n key value : ℕ) where
   accepted_more above = by_test (free_of w == 0)
     where
       by_test : (b : Bool) → (len (by_free b).queued + len (by_free b).running ≡ len w.queued + len w.running + 1) × ((by_free b).stopped ≡ w.stopped)
-      by_test true = (omega (arith, len-new w.queued n (record { key = key; value = value }) (not_in w.queued n above.queued)), refl)
-      by_test false = (omega (arith, len-new w.running n key (not_in w.running n above.running)), refl)
+      by_test true = (omega (arith, len-new w.queued n (record { key = key; value = value }) (not_there w.queued n above.queued)), refl)
+      by_test false = (omega (arith, len-new w.running n key (not_there w.running n above.running)), refl)
 
   pub accepted_counted : (w' : Work) (waiting next finished returned : ℕ) → w' ≡ accepted w n key value → next ≤ n → n < 18446744073709551615 → (free_of w ≡ 0 → len w.queued ≡ waiting → ⊥) → w.stopped ≡ false
       → IsCounted w waiting next finished returned → IsCounted w' waiting (n + 1) finished returned
@@ -110,7 +108,7 @@ module _ (w : Work) (n key value : ℕ) where
 
       by_test : (b : Bool) → (free_of w == 0) ≡ b → IsCounted (by_free b) waiting (n + 1) finished returned
       by_test true none =
-          let more = len-new w.queued n (record { key = key; value = value }) (not_in w.queued n queued_above) in
+          let more = len-new w.queued n (record { key = key; value = value }) (not_there w.queued n queued_above) in
           let full : len w.queued ≡ waiting → ⊥ = room (eqb-true (free_of w) 0 none) in record {
             few = (let few = counted.few in omega (arith, more, few, full));
             fits = counted.fits;
@@ -120,7 +118,7 @@ module _ (w : Work) (n key value : ℕ) where
             halted = λ over. absurd (let no = sym still ∙ over in cc);
           }
       by_test false some =
-          let more = len-new w.running n key (not_in w.running n running_above) in record {
+          let more = len-new w.running n key (not_there w.running n running_above) in record {
             few = counted.few;
             fits = counted.fits;
             above = record { queued = later w.queued n (n + 1) (omega arith) queued_above; running = some_put w.running n key (n + 1) (omega arith) (later w.running n (n + 1) (omega arith) running_above) };

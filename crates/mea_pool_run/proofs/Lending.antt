@@ -1,10 +1,9 @@
 -- the slots that are on the shelf and those that leases have, by name
-use Rattle.std.proofs.Common.{◌≡◌, ℕ, suc, ◌+◌, ◌<◌, ◌++◌, ◌⊎◌, inl, inr, Bool, true, false, cond, List, [], ◌∷◌, Option, Some, None, length, set, refl, ap, sym, subst, ◌∙◌, arith, length-append, length-set}
-use Rattle.std.proofs.lemmas.Bool.{cases_eq, eq-eqb}
+use Rattle.std.proofs.Common.{◌≡◌, ℕ, suc, ◌+◌, ◌<◌, ◌++◌, ◌⊎◌, inl, inr, Bool, true, false, List, [], ◌∷◌, Option, Some, None, length, set, refl, ap, sym, subst, ◌∙◌, arith, length-append, length-set}
+use Rattle.std.proofs.lemmas.Bool.{cases_eq}
 use Rattle.std.proofs.lemmas.List.{get_or-set_same, get_or-set_other}
 use Rattle.std.specs.FinMap.{get, insert, remove}
-use Rattle.mea_base.proofs.Maps.{by_put, by_gone}
-use Rattle.mea_base.proofs.Totals.{get_inserted}
+use Rattle.mea_base.proofs.Maps.{by_put, by_gone, get-there}
 use Rattle.mea_by_name.specs.ByName.{Names}
 use Rattle.mea_pool_core.specs.Shelf.{is_lent, lent_count, StandOnce, slots_of, slots_below, none_lent, with_slots}
 use Rattle.mea_pool_core.proofs.Shelves.{first_free, once_lent, count_lent, lent_within, once_back, count_back, length_below, length_none, count_none, unmarked, once_fresh, slots_zip, length_zip}
@@ -32,9 +31,6 @@ wait_no_lease slot h = let no : Some awaits ≡ Some (leases slot h.0) = h.1 in 
 
 same_slot : (slot other v : ℕ) → HasIn (Some (leases slot v)) other → other ≡ slot
 same_slot slot other v h = let same : Some (leases slot v) ≡ Some (leases other h.0) = h.1 in cc
-
-pub get_here : (things : Names Live) (k : ℕ) (x : Live) → get (insert things k x) k ≡ Some x
-get_here things k x = get_inserted things k k x ∙ ap (λ b. cond b (Some x) (get things k)) (eq-eqb k k refl)
 
 -- ---- which leases there are after a change
 
@@ -105,7 +101,7 @@ lends_got size l rest things n fresh are = record {
       (λ q apart there. get_or-set_other are.lent l.0 slot true false (λ same. unlent q (subst (λ (s : ℕ). Has things s q) same there)) ∙ are.out q slot there) f h;
   single = λ f g slot h k. by_both f g slot (put_has f slot h) (put_has g slot k);
   home = λ slot is. elim (cases_eq slot l.0) [
-    | inl same ↦ (n, (l.1, get_here things n (leases l.0 l.1) ∙ ap (λ (s : ℕ). Some (leases s l.1)) (sym same)))
+    | inl same ↦ (n, (l.1, get-there things n (leases l.0 l.1) ∙ ap (λ (s : ℕ). Some (leases s l.1)) (sym same)))
     | inr differs ↦ let there = are.home slot (sym (get_or-set_other are.lent l.0 slot true false differs) ∙ is) in
         (there.0, put_from things n slot there.0 (leases l.0 l.1) (λ here. absurd (none_no_lease slot (here.0, sym fresh ∙ here.1))) there.1)
   ];

@@ -4,14 +4,13 @@ use Rattle.std.proofs.lemmas.Bool.{cases_lt, cases_Bool, and_parts, eqb-true, lt
 use Rattle.std.specs.Ordering.{nat_cmp}
 use Rattle.std.specs.FinMap.{get, insert, remove, empty, get-empty}
 use Rattle.mea_base.specs.Totals.{total, weight}
-use Rattle.mea_base.proofs.Maps.{by_put, by_gone}
+use Rattle.mea_base.proofs.Maps.{by_put, by_gone, get-there}
 use Rattle.mea_base.proofs.Totals.{total-empty, total-insert, total-remove}
 use Rattle.mea_by_name.specs.ByName.{Names}
 use Rattle.mea_by_name.specs.NamedQueue.{Waiting, waker_for, waits, registering, without, wakers}
 use Rattle.mea_pool_core.specs.Shelf.{is_lent, lent_count, times, one_if, slots_of}
 use Rattle.mea_script.proofs.Events.{of_script}
 use Rattle.mea_pool_run.specs.declared.event.PoolEvent.{PoolEvent}
-use Rattle.mea_pool_run.specs.declared.event.PoolEvent.TheVariants as event
 use Rattle.mea_pool_run.specs.declared.event.PoolEvent.TheVariants.{Ask, Wait, Poll, Use, Back, End, Drain, Idle}
 use Rattle.mea_pool_run.specs.Hall.{Live, asks, awaits, leases, Hall, begun, is_drained, settled_at, passed_for, drained_at, lent, gets_or_waits, polled_at, polled, polled_drain, ended, poll_of, end_of, use_of, back_of, outcome}
 use Rattle.mea_pool_run.specs.Orderly.{Leases, IsOnce, AreOnce, names, IsPart, IsInOrder, IsOrderly, AreOrderly}
@@ -134,12 +133,9 @@ makes s n e x unlent light other kept =
         below = below_put s.things (n + 1) n x (omega arith) (below_next s.things n kept.below);
       };
       size = refl;
-      order = quiet_order s n e _ (ungranted_put s.things n x other) (λ slot h. unlent slot (h.0, sym (here_is s.things n x) ∙ h.1)) (order_same s.waiting);
+      order = quiet_order s n e _ (ungranted_put s.things n x other) (λ slot h. unlent slot (h.0, sym (get-there s.things n x) ∙ h.1)) (order_same s.waiting);
       stays = λ is. is;
     }
-  where
-    here_is : (things : Names Live) (k : ℕ) (y : Live) → get (insert things k y) k ≡ Some y
-    here_is things k y = by_put things k y (λ q o. q ≡ k → o ≡ Some y) (λ _. refl) (λ q apart same. absurd (apart (sym same))) k refl
 
 -- ---- a wait that takes no place goes, and with it its place in the line or its waker
 

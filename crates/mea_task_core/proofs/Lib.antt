@@ -7,4 +7,5 @@ pub mod Moves
 pub mod Ends
 pub mod Adds
 pub mod Plays
+pub mod Gives
 pub mod WholeTurns

@@ -22,7 +22,7 @@ use Rattle.mea_task_core.specs.declared.phase.Phase.TheVariants.{Queued, Asks, W
 use Rattle.mea_task_core.specs.Task.{TaskRecord, at_phase, past, over, woken_phase, is_active, future_in, next_step}
 use Rattle.mea_task_core.specs.Machine.{Machine, name_of, with_task, stops, woken, played, outcome_of, asks, polled, takes, gives, yields, comes_to, begins, goes_on, move_by, move, moves, IsAtRest}
 use Rattle.mea_task_core.specs.Bounds.{takes_and_yields, AddsNothing, rest_of, turns_by, turns_left, moves_by, moves_left, one_if_on, work}
-use Rattle.mea_task_core.specs.Sound.{IsSound, AreLinked, Has, IsFutureOf, one_if, one_if_is, times, times_due, future_of}
+use Rattle.mea_task_core.specs.Sound.{IsSound, IsSoundHall, AreLinked, Has, IsFutureOf, one_if, one_if_is, times, times_due, future_of}
 use Rattle.mea_task_core.proofs.Tasks.{get-woken_still}
 use Rattle.mea_task_core.proofs.Links.{Changes, one_changes, linked_due}
 use Rattle.mea_task_core.proofs.Wakes.{release_links}
@@ -69,6 +69,15 @@ module _ (m : Machine) (t : ℕ) (x : TaskRecord) (s : IsSound m) (on : m.runnin
   due_others : (u : ℕ) → (t ≡ u → ⊥) → times u m.queue ≡ times_due m u
   due_others u apart = omega (arith, due_then u, on_false (t == u) 1 (ne_eqb t u apart))
 
+  -- a machine to which it comes at these costs
+  advances : (n : Machine) (ws : List ℕ) (y : TaskRecord) → Costs m n ws t x y → IsSoundHall n.hall n.events n.semaphores → AreLinked n.hall.futures n.semaphores n.tasks (times_due n) → Advances m n
+  advances n ws y costs hall linked = record {
+    sound = record { hall = hall; linked = linked; bounded = bounded_after m n ws t x y costs s.bounded };
+    less = work_falls m n ws t x y costs;
+    events = costs.events;
+    adds = adds_nothing m n ws t x y costs;
+  }
+
   -- ---- its turn goes on, or ends, after an event that wakes nobody
   module _ (o : Outcome) (y : TaskRecord) (quiet : o.wakes ≡ []) where
     queued : (u : ℕ) → times u (m.queue ++ o.wakes) ≡ times u m.queue
@@ -112,17 +121,9 @@ module _ (m : Machine) (t : ℕ) (x : TaskRecord) (s : IsSound m) (on : m.runnin
 
     is_over : (p : Phase) → is_active p ≡ false → future_in p ≡ None → Has m.hall.futures m.semaphores t (over p) p → ((k : ℕ) → turns_by p k ≡ 0) → ((k : ℕ) → moves_by p k ≡ 0)
         → Advances m (stops (with_task m t (over p)))
-    is_over p idle none has no_turns no_moves = record {
-      sound = record {
-        hall = s.hall;
-        linked = one_changes m.hall.futures m.hall.futures m.semaphores m.tasks (times_due m) _ t x (over p) s.linked at
-            (plain_change (over p) (times_due (stops (with_task m t (over p)))) (λ k z is. absurd (cc)) (omega (arith, alone, ap one_if idle)) (λ u apart. omega (arith, due_others u apart)) none_now has none);
-        bounded = bounded_after m _ [] t x _ costs s.bounded;
-      };
-      less = work_falls m _ [] t x _ costs;
-      events = costs.events;
-      adds = adds_nothing m _ [] t x _ costs;
-    }
+    is_over p idle none has no_turns no_moves = advances _ [] _ costs s.hall
+        (one_changes m.hall.futures m.hall.futures m.semaphores m.tasks (times_due m) _ t x (over p) s.linked at
+        (plain_change (over p) (times_due (stops (with_task m t (over p)))) (λ k z is. absurd (cc)) (omega (arith, alone, ap one_if idle)) (λ u apart. omega (arith, due_others u apart)) none_now has none))
       where
         costs : Costs m (stops (with_task m t (over p))) [] t x (over p)
         costs = record {
@@ -144,18 +145,10 @@ module _ (m : Machine) (t : ℕ) (x : TaskRecord) (s : IsSound m) (on : m.runnin
     fails = is_over Failed refl refl tt (λ k. refl) (λ k. refl)
 
     pub yielded : next_step x ≡ Some Yield → Advances m (yields m t x)
-    yielded is = record {
-      sound = record {
-        hall = s.hall;
-        linked = one_changes m.hall.futures m.hall.futures m.semaphores m.tasks (times_due m) _ t x (past x) s.linked at
-            (plain_change (past x) (times_due (yields m t x)) (λ k z is. is) (omega (arith, alone, again t, on_true (t == t) 1 (eq-eqb t t refl)))
-            (λ u apart. omega (arith, due_others u apart, again u, on_false (t == u) 1 (ne_eqb t u apart))) none_now tt refl);
-        bounded = bounded_after m _ [] t x _ costs s.bounded;
-      };
-      less = work_falls m _ [] t x _ costs;
-      events = costs.events;
-      adds = adds_nothing m _ [] t x _ costs;
-    }
+    yielded is = advances _ [] _ costs s.hall
+        (one_changes m.hall.futures m.hall.futures m.semaphores m.tasks (times_due m) _ t x (past x) s.linked at
+        (plain_change (past x) (times_due (yields m t x)) (λ k z is. is) (omega (arith, alone, again t, on_true (t == t) 1 (eq-eqb t t refl)))
+        (λ u apart. omega (arith, due_others u apart, again u, on_false (t == u) 1 (ne_eqb t u apart))) none_now tt refl))
       where
         again : (u : ℕ) → times u (m.queue ++ t ∷ []) ≡ times u m.queue + cond (t == u) 1 0
         again u = let more = sum_by-append {X = ℕ} (λ v. cond (v == u) 1 0) m.queue (t ∷ []) in omega (arith, more, sum_by-cons {X = ℕ} (λ v. cond (v == u) 1 0) t [])
@@ -185,17 +178,9 @@ module _ (m : Machine) (t : ℕ) (x : TaskRecord) (s : IsSound m) (on : m.runnin
       place_known = s.linked.known t x.position x (Give q n) at is
 
       given : cause_of m.hall released ≡ None → Advances m (with_task (played m (outcome_of m released)) t (past x))
-      given allowed = record {
-        sound = record {
-          hall = hall_goes_on m.hall m.events m.semaphores released s.hall tt allowed (λ k a. release_opens m.hall m.events (name_of m q) n k a);
-          linked = linked_due _ m.semaphores _ mid_due _ (λ u. let more = sum_by-append {X = ℕ} (λ v. cond (v == u) 1 0) m.queue (outcome_of m released).wakes in omega (arith, more))
-              (one_changes _ _ m.semaphores _ mid_due mid_due t x (past x) mid there_still change);
-          bounded = bounded_after m _ (outcome_of m released).wakes t x _ costs s.bounded;
-        };
-        less = work_falls m _ (outcome_of m released).wakes t x _ costs;
-        events = costs.events;
-        adds = adds_nothing m _ (outcome_of m released).wakes t x _ costs;
-      }
+      given allowed = advances _ (outcome_of m released).wakes _ costs (hall_goes_on m.hall m.events m.semaphores released s.hall tt allowed (λ k a. release_opens m.hall m.events (name_of m q) n k a))
+          (linked_due _ m.semaphores _ mid_due _ (λ u. let more = sum_by-append {X = ℕ} (λ v. cond (v == u) 1 0) m.queue (outcome_of m released).wakes in omega (arith, more))
+          (one_changes _ _ m.semaphores _ mid_due mid_due t x (past x) mid there_still change))
         where
           mid : AreLinked (outcome_of m released).hall.futures m.semaphores (woken m.tasks (outcome_of m released).wakes) mid_due
           mid = release_links m.hall m.events (name_of m q) n s.hall.valid s.hall.below (open_named m.hall (name_of m q) (s.hall.each_open q place_known)) m.semaphores m.tasks (times_due m) s.linked
@@ -274,17 +259,9 @@ module _ (m : Machine) (t : ℕ) (x : TaskRecord) (s : IsSound m) (on : m.runnin
       }
 
       pub asked : Advances m (asks m t x q n)
-      asked = record {
-        sound = record {
-          hall = hall_goes_on m.hall m.events m.semaphores acquires s.hall tt (acquire_allowed m.hall (name_of m q) n (s.hall.each_open q take_known))
-              (λ k a. record { there = a.there; is = a.is; named = a.named; is_open = a.is_open });
-          linked = stays_linked (outcome_of m acquires) (at_phase x (Asks m.events)) refl ask_change;
-          bounded = bounded_after m _ [] t x _ ask_costs s.bounded;
-        };
-        less = work_falls m _ [] t x _ ask_costs;
-        events = ask_costs.events;
-        adds = adds_nothing m _ [] t x _ ask_costs;
-      }
+      asked = advances _ [] _ ask_costs (hall_goes_on m.hall m.events m.semaphores acquires s.hall tt (acquire_allowed m.hall (name_of m q) n (s.hall.each_open q take_known))
+          (λ k a. record { there = a.there; is = a.is; named = a.named; is_open = a.is_open }))
+          (stays_linked (outcome_of m acquires) (at_phase x (Asks m.events)) refl ask_change)
 
   -- ---- it polls its future
   module _ (f : ℕ) (own_future : future_in x.phase ≡ Some f) where
@@ -310,16 +287,8 @@ module _ (m : Machine) (t : ℕ) (x : TaskRecord) (s : IsSound m) (on : m.runnin
 
     ready : (k : ℕ) → moves_left x ≡ k → turns_left x ≡ turns_left (past x) + 0 ⊎ turns_left x ≡ turns_left (past x) + 1 → moves_left (past x) + 1 ≤ k → (y : Future) → get m.hall.futures f ≡ Some y
         → GetsReady m.hall f (outcome_of m polls_it) → Advances m (with_task (played m (outcome_of m polls_it)) t (past x))
-    ready k work_is turns_are falls y there_now r = record {
-      sound = record {
-        hall = hall_goes_on m.hall m.events m.semaphores polls_it s.hall tt (poll_allowed m.hall f t y there_now) r.opens;
-        linked = stays_linked (outcome_of m polls_it) (past x) r.wakes (ready_change r);
-        bounded = bounded_after m _ (outcome_of m polls_it).wakes t x _ costs s.bounded;
-      };
-      less = work_falls m _ (outcome_of m polls_it).wakes t x _ costs;
-      events = costs.events;
-      adds = adds_nothing m _ (outcome_of m polls_it).wakes t x _ costs;
-    }
+    ready k work_is turns_are falls y there_now r = advances _ (outcome_of m polls_it).wakes _ costs (hall_goes_on m.hall m.events m.semaphores polls_it s.hall tt (poll_allowed m.hall f t y there_now) r.opens)
+        (stays_linked (outcome_of m polls_it) (past x) r.wakes (ready_change r))
       where
         costs : Costs m (with_task (played m (outcome_of m polls_it)) t (past x)) (outcome_of m polls_it).wakes t x (past x)
         costs = record {
@@ -393,16 +362,8 @@ module _ (m : Machine) (t : ℕ) (x : TaskRecord) (s : IsSound m) (on : m.runnin
             moves = (let now = moves_at x (Asks f) is_asking in let steps = steps_next x _ had.next in omega (arith, now, steps, is_on));
             turns = (let now = turns_at x (Asks f) is_asking in omega (arith, now, is_on));
           } in
-          record {
-            sound = record {
-              hall = hall_goes_on m.hall m.events m.semaphores (events.Poll f t) s.hall tt (poll_allowed m.hall f t _ had.is) r.opens;
-              linked = ends_linked (outcome_of m (events.Poll f t)) (at_phase x (Waits f)) r.wakes (waits_change r);
-              bounded = bounded_after m _ (outcome_of m (events.Poll f t)).wakes t x _ costs s.bounded;
-            };
-            less = work_falls m _ (outcome_of m (events.Poll f t)).wakes t x _ costs;
-            events = costs.events;
-            adds = adds_nothing m _ (outcome_of m (events.Poll f t)).wakes t x _ costs;
-          }
+          advances _ (outcome_of m (events.Poll f t)).wakes _ costs (hall_goes_on m.hall m.events m.semaphores (events.Poll f t) s.hall tt (poll_allowed m.hall f t _ had.is) r.opens)
+          (ends_linked (outcome_of m (events.Poll f t)) (at_phase x (Waits f)) r.wakes (waits_change r))
 
   -- ---- whatever it comes to
   idle_now : (p : Phase) → x.phase ≡ p → is_active p ≡ false → ⊥

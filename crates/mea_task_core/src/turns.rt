@@ -1,16 +1,12 @@
-ghost use Rattle.std.specs.Prelude.{◌≡◌, ◌+◌, ◌<◌, ◌≤◌, ◌++◌, [], ◌∷◌, ℕ, Some, None, length, OnOk, OnErr};
-ghost use Rattle.mea_events.specs.declared.sem_event.SemEvent.TheVariants as events;
+ghost use Rattle.std.specs.Prelude.{◌≡◌, ◌+◌, ◌<◌, ◌≤◌, ◌++◌, [], ◌∷◌, ℕ, None, length, OnOk, OnErr};
 ghost use Rattle.mea_family.specs.Family.{is_pending};
-ghost use Rattle.mea_sem_model.specs.Cause.{cause_of};
-ghost use Rattle.mea_task_core.specs.Task.{over};
-ghost use Rattle.mea_task_core.specs.Machine.{Machine, name_of, with_task, stops, woken, outcome_of, asks, polled, gives, yields, move};
+ghost use Rattle.mea_task_core.specs.Machine.{woken, move};
 ghost use Rattle.mea_task_core.specs.Sound.{times};
-ghost use Rattle.mea_task_core.specs.Turns.{ComesTo};
+ghost use Rattle.mea_task_core.specs.Turns.{ComesToItsEnd, ComesToYield, ComesToAsk, ComesToPoll, ComesToGive};
 
 use crate::executor::Executor;
 use crate::phase::Phase;
 use crate::run_queue::RunQueue;
-use crate::step::Step;
 use crate::task::Task;
 use mea_base::NoMemory;
 use mea_family::Answer;
@@ -30,7 +26,7 @@ impl Executor {
 
     // All steps of the task are over, and so is its turn.
     pub(crate) fn finish(&mut self, task: usize)
-        requires { ComesTo self.old task None (λ x. stops (with_task self.old task (over Phase.Finished))) }
+        requires { ComesToItsEnd self.old task }
         ensures { self.new ≡ move self.old }
     {
         self.tasks[task].end(Phase::Finished);
@@ -39,7 +35,7 @@ impl Executor {
 
     // The task goes to the end of the run queue, and its turn is over.
     pub(crate) fn yield_turn(&mut self, task: usize)
-        requires { ComesTo self.old task (Some Step.Yield) (λ x. yields self.old task x) }
+        requires { ComesToYield self.old task }
         ensures { self.new ≡ move self.old }
     {
         self.tasks[task].pass();
@@ -54,7 +50,7 @@ impl Executor {
         semaphore: usize,
         demand: usize,
     ) -> Result<(), NoMemory>
-        requires { ComesTo self.old task (Some (Step.Take semaphore demand)) (λ x. asks self.old task x semaphore demand) }
+        requires { ComesToAsk self.old task semaphore demand }
         ensures ok { OnOk result (self.new ≡ move self.old) }
         ensures err { OnErr result (self.new ≡ self.old) }
     {
@@ -70,7 +66,7 @@ impl Executor {
 
     // The task polls its future with its own number as the waker. It waits, and its turn is over, or it has what it takes.
     pub(crate) fn poll(&mut self, task: usize, future: u64) -> Result<(), NoMemory>
-        requires { (q : ℕ) × (n : ℕ) × ComesTo self.old task (Some (Step.Take q n)) (λ x. polled self.old task x future (outcome_of self.old (events.Poll future task))) }
+        requires { ComesToPoll self.old task future }
         ensures ok { OnOk result (self.new ≡ move self.old) }
         ensures err { OnErr result (self.new ≡ self.old) }
     {
@@ -92,7 +88,7 @@ impl Executor {
 
     // The task releases permits; whom that wakes goes to the end of the run queue. Where the release is refused, it has failed.
     pub(crate) fn give(&mut self, task: usize, semaphore: usize, count: usize)
-        requires { ComesTo self.old task (Some (Step.Give semaphore count)) (λ x. gives self.old task x (cause_of self.old.hall (events.Release (name_of self.old semaphore) count)) (outcome_of self.old (events.Release (name_of self.old semaphore) count))) }
+        requires { ComesToGive self.old task semaphore count }
         ensures { self.new ≡ move self.old }
     {
         let number = self.events;

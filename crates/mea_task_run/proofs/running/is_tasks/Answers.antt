@@ -1,12 +1,11 @@
-use Rattle.std.proofs.Common.{rules, arith, ◌≡◌, List, [], ◌∷◌, map, length, get_or, string_bytes, ap, sym}
+use Rattle.std.proofs.Common.{◌≡◌, ◌-◌, [], ◌∷◌, map, length, take, drop, string_bytes, ap, ◌∙◌, rules, arith}
+use Rattle.mea_text.proofs.Commands.{first_word}
 use Rattle.mea_task_run.proofs.running.is_tasks.Goals as goal
-
-one_word : {A B : Type 0} (f : A → B) (xs : List A) (x : A) → length xs ≡ 1 → x ≡ get_or xs 0 x → map f xs ≡ f x ∷ []
-one_word f [] x one is = absurd (omega arith)
-one_word f (y ∷ []) x one is = ap (λ v. f v ∷ []) (sym is)
-one_word f (y ∷ z ∷ zs) x one is = absurd (omega arith)
 
 pub returns-in-len1 : goal.returns-in-len1
 returns-in-len1 c =
-    let words = one_word string_bytes c.args.words.now c.word-item.result (omega arith) c.word-item.is in
+    let one : length c.args.words.now ≡ 1 = omega arith in
+    let words : map string_bytes c.args.words.now ≡ string_bytes c.word-item.result ∷ [] =
+    first_word string_bytes c.args.words.now c.word-item.result (omega arith) c.word-item.is
+    ∙ ap (λ n. string_bytes c.word-item.result ∷ map string_bytes (take (n - 1) (drop 1 c.args.words.now))) one in
     rw words (search rules)
