@@ -1,5 +1,5 @@
 -- generated scripts are legal, and their polls wait
-use Rattle.std.proofs.Common.{◌≡◌, ℕ, zero, suc, ◌+◌, ◌*◌, ◌%◌, ◌<◌, ◌++◌, List, [], ◌∷◌, map, length, None, refl, ap, sym, subst, ◌∙◌, arith, append_assoc, unwrap_or, length-append, if◌then◌else◌}
+use Rattle.std.proofs.Common.{◌≡◌, ℕ, zero, suc, ◌+◌, ◌*◌, ◌%◌, ◌++◌, List, [], ◌∷◌, map, length, None, refl, ap, sym, subst, ◌∙◌, arith, append_assoc, unwrap_or, length-append, if◌then◌else◌}
 use Rattle.std.specs.List.{sum_by}
 use Rattle.std.proofs.lemmas.List.Sums.{sum_by-cons, sum_by-append}
 use Rattle.std.specs.FinMap as finmap
@@ -11,7 +11,6 @@ use Rattle.mea_events.specs.declared.sem_event.SemEvent.{SemEvent}
 use Rattle.mea_events.specs.declared.sem_event.SemEvent.TheVariants as events
 use Rattle.mea_sem_model.specs.Hall as sem
 use Rattle.mea_sem_model.specs.Cause as sem_cause
-use Rattle.mea_sem_model.specs.Valid.{IsValid, IsBelow}
 use Rattle.mea_sem_model.proofs.Keeps.{valid_empty, below_empty, keeps_below}
 use Rattle.mea_sem_model.proofs.StaysValid.{kept_valid}
 use Rattle.mea_events.specs.declared.event.Event.{Event}
@@ -19,7 +18,7 @@ use Rattle.mea_events.specs.declared.event.Event.TheVariants.{Sem}
 use Rattle.mea_hall.specs.World.{World, empty_world, cause_of, step}
 use Rattle.mea_hall.specs.Front.{Front, front_at, front_from, front_of, prepended, IsLegal}
 use Rattle.mea_run.specs.Generated.{drawn_by, draw, round, round_of, rounds_from, first_state, script_of, PollsWait, IsBetweenRounds, begun_by, is_semaphore_poll, pendings}
-use Rattle.mea_run.proofs.Rounds.{AllPlay, after, played, allowed, round_between, round_valid, round_below, round_plays}
+use Rattle.mea_run.proofs.Rounds.{AllPlay, after, number_after, PlaysTo, IsReady, played, allowed, round_comes}
 
 -- ---- events of semaphores in the world
 -- the replies of events of semaphores
@@ -69,12 +68,6 @@ pending_told h i (e ∷ es) plays =
     )
 
 -- ---- rounds
--- a hall between two rounds, of which f is the number of the next event
-pub record IsReady (h : sem.Hall) (f : ℕ) : Type 0 where
-  pub valid : IsValid h
-  pub below : IsBelow h f
-  pub between : IsBetweenRounds h
-
 module _ (h : sem.Hall) (state j : ℕ) (ready : IsReady h (1 + 9 * j)) where
   abbrev a : ℕ
   a = draw 1 state
@@ -94,26 +87,14 @@ module _ (h : sem.Hall) (state j : ℕ) (ready : IsReady h (1 + 9 * j)) where
   abbrev pub events_of_round : List SemEvent
   events_of_round = round f (2 * j) (2 * j + 1) a b c d
 
-  two : f + 1 + 1 ≡ f + 2
-  two = omega arith
-
-  few : d % 8 < 8
-  few = mod-lt d (omega arith)
+  comes : PlaysTo h f events_of_round IsReady
+  comes = round_comes f (f + 2) (2 * j) (2 * j + 1) (1 + a % 4) (1 + b % 4) (c % 3) (d % 8) (omega arith) (omega arith) (omega arith) (mod-lt d (omega arith)) h ready
 
   pub plays : AllPlay h f events_of_round
-  plays = round_plays h f (f + 2) (2 * j) (2 * j + 1) (1 + a % 4) (1 + b % 4) (c % 3) (d % 8) two ready.valid ready.below ready.between (omega arith)
-      (omega arith) few
+  plays = comes.plays
 
   pub again : IsReady (after h f events_of_round) (1 + 9 * (j + 1))
-  again = record {
-    valid = round_valid h f (f + 2) (2 * j) (2 * j + 1) (1 + a % 4) (1 + b % 4) (c % 3) (d % 8) two ready.valid ready.below ready.between (omega arith)
-        (omega arith) few;
-    below = subst (IsBelow (after h f events_of_round)) (let same : f + 1 + 1 + 1 + 1 + 1 + 1 + 1 + 1 + 1 ≡ 1 + 9 * (j + 1) = omega arith in same)
-        (round_below h f (f + 2) (2 * j) (2 * j + 1) (1 + a % 4) (1 + b % 4) (c % 3) (d % 8) two ready.valid ready.below ready.between (omega arith)
-        (omega arith) few);
-    between = round_between h f (f + 2) (2 * j) (2 * j + 1) (1 + a % 4) (1 + b % 4) (c % 3) (d % 8) two ready.valid ready.below ready.between (omega arith)
-        (omega arith) few;
-  }
+  again = subst (IsReady (after h f events_of_round)) (let same : number_after f events_of_round ≡ 1 + 9 * (j + 1) = omega arith in same) comes.leaves
 
 -- the front of a round and of what comes after it
 pub front_round : (w : World) (state j : ℕ) (fs : List Event) (ready : IsReady w.semaphores (1 + 9 * j))

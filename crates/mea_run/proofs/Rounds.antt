@@ -1,13 +1,13 @@
 -- no event of a generated round has a cause for refusal
-use Rattle.std.proofs.Common.{◌≡◌, ℕ, ◌+◌, ◌-◌, ◌<◌, ◌≤◌, ◌^◌, ◌==◌, inl, inr, Bool, true, false, cond, List, [], ◌∷◌, ◌++◌, Option, Some, None, refl, ap, sym, subst, ◌∙◌, arith, is_some, if◌then◌else◌, nat_lt}
+use Rattle.std.proofs.Common.{◌≡◌, ℕ, ◌+◌, ◌-◌, ◌<◌, ◌≤◌, ◌^◌, ◌==◌, ◌||◌, inl, inr, Bool, true, false, cond, List, [], ◌∷◌, ◌++◌, Option, Some, None, refl, ap, sym, subst, ◌∙◌, arith, is_some, if◌then◌else◌, nat_lt}
 use Rattle.std.specs.Option.{IsSome, option_map}
 use Rattle.std.specs.FinMap.{get, insert}
-use Rattle.std.proofs.lemmas.Bool.{ne_eqb, lt-leb, lt-ltb}
+use Rattle.std.proofs.lemmas.Bool.{eq-eqb, ne_eqb, lt-leb, lt-ltb}
 use Rattle.mea_family.specs.declared.answer.Answer.TheVariants as answers
 use Rattle.mea_family.specs.declared.stop.Stop.TheVariants as stops
 use Rattle.mea_family.specs.Causes.{unknown_unless}
 use Rattle.mea_family.specs.Family.{is_pending}
-use Rattle.mea_base.proofs.Maps.{by_put, value_in, is_there, is_absent, get-there, get-other, get-gone}
+use Rattle.mea_base.proofs.Maps.{by_put, value_in, is_there, is_absent, get-there, get-gone}
 use Rattle.mea_base.proofs.Tests.{by_name}
 use Rattle.mea_base.specs.Queue.{granted_in}
 use Rattle.mea_base.proofs.Totals.{total-zero}
@@ -28,13 +28,36 @@ use Rattle.mea_sem_model.proofs.StaysValid.{rises, kept_valid}
 use Rattle.mea_sem_model.proofs.Granting.{Granting, grants}
 use Rattle.mea_run.specs.Generated.{is_semaphore_poll, IsBetweenRounds}
 
--- what an event makes of a hall, of which nothing is computed: nine of them in a row are nine names, and no term that grows
+-- what an event makes of a hall, of which nothing is computed, so that no term grows with the events of a round
 unfoldable pub played : Hall → ℕ → SemEvent → Outcome
 played h i e = step h i e
 
 -- a test that is met gives no cause
 pub allowed : (b : Bool) → b ≡ true → unknown_unless b ≡ None
 allowed b e = ap unknown_unless e
+
+-- ---- events one after another
+-- all these events are played, and each poll among them replies `pending`
+abbrev pub AllPlay : Hall → ℕ → List SemEvent → Type 0
+AllPlay h i [] = Unit {0}
+AllPlay h i (e ∷ es) = (cause_of h e ≡ None) × (is_semaphore_poll e ≡ true → (played h i e).reply ≡ answers.Pending)
+    × (is_pending (played h i e).reply ≡ is_semaphore_poll e)
+    × AllPlay (played h i e).hall (i + 1) es
+
+-- the hall after these events
+abbrev pub after : Hall → ℕ → List SemEvent → Hall
+after h i [] = h
+after h i (e ∷ es) = after (played h i e).hall (i + 1) es
+
+-- and the number of the event that follows them
+abbrev pub number_after : ℕ → List SemEvent → ℕ
+number_after i [] = i
+number_after i (e ∷ es) = number_after (i + 1) es
+
+-- all these events are played, and they leave a hall of this kind
+pub record PlaysTo (h : Hall) (i : ℕ) (es : List SemEvent) (left : Hall → ℕ → Type 0) : Type 0 where
+  pub plays : AllPlay h i es
+  pub leaves : left (after h i es) (number_after i es)
 
 -- ---- the futures after an event that polls nobody
 module _ (h : Hall) (i : ℕ) (e : SemEvent) (v : IsValid h) (low : IsBelow h i) (cause : cause_of h e ≡ None) (quiet : (f : ℕ) → waker_in e f ≡ None) where
@@ -73,15 +96,45 @@ record Going (h : Hall) (i b : ℕ) : Type 0 where
   no_permit : (p : ℕ) → get h.permits p ≡ None
   few : live h 0 ≤ b
 
-goes_on : (h : Hall) (i b c : ℕ) (e : SemEvent) → Going h i b → Fits e → cause_of h e ≡ None → made_by 0 (line h i e) e + released_by 0 e ≤ c
-    → Stands (played h i e).hall → (played h i e).hall.permits ≡ h.permits → Going (played h i e).hall (i + 1) (b + c)
+-- an event is played with no cause for refusal, a poll alone replies `pending`, semaphore 0 stands after it, no permit comes to live, and at
+-- most c permits come to be free, held or paid
+record Goes (h : Hall) (i c : ℕ) (e : SemEvent) : Type 0 where
+  fits : Fits e
+  cause : cause_of h e ≡ None
+  comes : made_by 0 (line h i e) e + released_by 0 e ≤ c
+  stands : Stands (played h i e).hall
+  permits : (played h i e).hall.permits ≡ h.permits
+  waits : is_semaphore_poll e ≡ true → (played h i e).reply ≡ answers.Pending
+  reply : is_pending (played h i e).reply ≡ is_semaphore_poll e
+
+-- and others after it, in each hall that is as it leaves its own
+next : (h : Hall) (i c : ℕ) (e : SemEvent) (es : List SemEvent) (before : Hall → Type 0) (left : Hall → ℕ → Type 0) → Goes h i c e → before (played h i e).hall
+    → ((k : Hall) → before k → PlaysTo k (i + 1) es left) → PlaysTo h i (e ∷ es) left
+next h i c e es before left goes here later =
+    let all = later (played h i e).hall here in
+    record { plays = (goes.cause, goes.waits, goes.reply, all.plays); leaves = all.leaves }
+
+goes_on : (h : Hall) (i b c limit : ℕ) (e : SemEvent) → Going h i b → Goes h i c e → b + c ≤ limit → Going (played h i e).hall (i + 1) limit
 unfolding played
-goes_on h i b c e g fits cause comes stands permits = record {
-  valid = kept_valid h i e g.valid g.below fits cause;
-  below = keeps_below h i e g.valid g.below cause;
+goes_on h i b c limit e g goes most = record {
+  valid = kept_valid h i e g.valid g.below goes.fits goes.cause;
+  below = keeps_below h i e g.valid g.below goes.cause;
+  stands = goes.stands;
+  no_permit = λ p. ap (λ m. get m p) goes.permits ∙ g.no_permit p;
+  few = let rise = rises h i e (matched h g.valid) (orderly h g.valid) g.below goes.cause 0 in let old = g.few in let comes = goes.comes in omega (arith, rise, old, comes, most);
+}
+
+-- an event that is no poll
+goes_still : (h : Hall) (i c : ℕ) (e : SemEvent) → is_semaphore_poll e ≡ false → Fits e → cause_of h e ≡ None → made_by 0 (line h i e) e + released_by 0 e ≤ c
+    → Stands (played h i e).hall → (played h i e).hall.permits ≡ h.permits → is_pending (played h i e).reply ≡ false → Goes h i c e
+goes_still h i c e no_poll fits cause comes stands permits replied = record {
+  fits = fits;
+  cause = cause;
+  comes = comes;
   stands = stands;
-  no_permit = λ p. ap (λ m. get m p) permits ∙ g.no_permit p;
-  few = let rise = rises h i e (matched h g.valid) (orderly h g.valid) g.below cause 0 in let old = g.few in omega (arith, rise, old, comes);
+  permits = permits;
+  waits = λ poll. absurd (cc);
+  reply = replied ∙ sym no_poll;
 }
 
 -- a semaphore that is put where one was keeps the name, and stays open
@@ -105,29 +158,28 @@ module _ (h : Hall) (i f w : ℕ) (x : Future) (is : get h.futures f ≡ Some x)
       ∙ ap (λ b. if b then quietly (made_ready (with_semaphore h x.semaphore (taking (semaphore_at h x.semaphore) x.demand)) i f x) answers.Ready
       else quietly (queueing h f w x) answers.Pending) (lt-leb x.demand (free h x.semaphore) (omega (arith, some, none_there)))
 
-  waits_cause : cause_of h (events.Poll f w) ≡ None
-  waits_cause = allowed (is_future h f) (is_there (get h.futures f) x is)
-
   waits_hall : (played h i (events.Poll f w)).hall ≡ queueing h f w x
   waits_hall = ap (λ (o : Outcome). o.hall) waits
 
-  waits_free : free (played h i (events.Poll f w)).hall 0 ≡ 0
-  waits_free = ap (λ k. free k 0) waits_hall
-      ∙ by_semaphore h x.semaphore
-      (record (semaphore_at h x.semaphore) { free = 0; queue = queue_at h x.semaphore ++ (Waiter f, x.demand - free h x.semaphore) ∷ [] })
-      (λ k y. k ≡ 0 → y.free ≡ 0) (λ e. refl) (λ k apart e. absurd (apart (of ∙ sym e))) 0 refl
-
-  waits_stands : Stands (played h i (events.Poll f w)).hall
-  waits_stands =
-      let with = still_stands h x.semaphore
-      (record (semaphore_at h x.semaphore) { free = 0; queue = queue_at h x.semaphore ++ (Waiter f, x.demand - free h x.semaphore) ∷ [] }) refl refl stands in
-      subst Stands (sym waits_hall) (record { named = with.named; is_open = with.is_open })
-
-  waits_permits : (played h i (events.Poll f w)).hall.permits ≡ h.permits
-  waits_permits = ap (λ (k : Hall). k.permits) waits_hall
-
   waits_futures : (played h i (events.Poll f w)).hall.futures ≡ insert h.futures f (record x { stage = Waiting w })
   waits_futures = ap (λ (k : Hall). k.futures) waits_hall
+
+  waits_reply : (played h i (events.Poll f w)).reply ≡ answers.Pending
+  waits_reply = ap (λ (o : Outcome). o.reply) waits
+
+  poll_goes : Goes h i 0 (events.Poll f w)
+  poll_goes = record {
+    fits = tt;
+    cause = allowed (is_future h f) (is_there (get h.futures f) x is);
+    comes = omega arith;
+    stands =
+        let with = still_stands h x.semaphore
+        (record (semaphore_at h x.semaphore) { free = 0; queue = queue_at h x.semaphore ++ (Waiter f, x.demand - free h x.semaphore) ∷ [] }) refl refl stands in
+        subst Stands (sym waits_hall) (record { named = with.named; is_open = with.is_open });
+    permits = ap (λ (k : Hall). k.permits) waits_hall;
+    waits = λ poll. waits_reply;
+    reply = ap is_pending waits_reply;
+  }
 
 -- ---- the end of a future
 pour_stands : (k : Hall) (q n : ℕ) → Stands k → Stands (pour k q n)
@@ -166,147 +218,192 @@ module _ (h : Hall) (i f : ℕ) (x : Future) (is : get h.futures f ≡ Some x) w
   unfolding played
   end_is = ap (λ o. end_of h f o) is
 
-  end_cause : cause_of h (events.End f) ≡ None
-  end_cause = ap (λ o. unknown_unless (if is_some o then true else is_permit h f)) is
-
-  ends_stands : Stands h → Stands (played h i (events.End f)).hall
-  ends_stands stands = subst (λ (o : Outcome). Stands o.hall) (sym end_is) (end_stands x.stage stands)
-
-  ends_permits : (played h i (events.End f)).hall.permits ≡ h.permits
-  ends_permits = ap (λ (o : Outcome). o.hall.permits) end_is ∙ permits_end x.stage
-
   reply_end : (t : FutureStage) → is_pending (end_future h f x t).reply ≡ false
   reply_end New = refl
   reply_end (Waiting u) = refl
   reply_end Granted = refl
   reply_end Cut = refl
 
-  ends_reply : is_pending (played h i (events.End f)).reply ≡ false
-  ends_reply = ap (λ (o : Outcome). is_pending o.reply) end_is ∙ reply_end x.stage
+  end_goes : Stands h → Goes h i 0 (events.End f)
+  end_goes stands = goes_still h i 0 (events.End f) refl tt (ap (λ o. unknown_unless (if is_some o then true else is_permit h f)) is) (omega arith)
+      (subst (λ (o : Outcome). Stands o.hall) (sym end_is) (end_stands x.stage stands)) (ap (λ (o : Outcome). o.hall.permits) end_is ∙ permits_end x.stage)
+      (ap (λ (o : Outcome). is_pending o.reply) end_is ∙ reply_end x.stage)
 
   ends_gone : get (played h i (events.End f)).hall.futures f ≡ None
   ends_gone = ap (λ (o : Outcome). get o.hall.futures f) end_is ∙ gone_end x.stage
 
--- ---- what the other events of a round leave
--- an acquire, which is plain or owned
-module _ (h : Hall) (i m : ℕ) where
-  begun_stands : Stands h → Stands (played h i (events.Acq 0 m)).hall
-  unfolding played
-  begun_stands stands = record { named = stands.named; is_open = stands.is_open }
+-- ---- the other events of a round
+module _ (h : Hall) (i n : ℕ) (stands : Stands h) where
+  named : unknown_unless (is_named h 0) ≡ None
+  named = allowed (is_named h 0) stands.named
 
-  begun_permits : (played h i (events.Acq 0 m)).hall.permits ≡ h.permits
+  -- an acquire, which is plain or owned
+  acquire_goes : Goes h i 0 (events.Acq 0 n)
   unfolding played
-  begun_permits = refl
+  acquire_goes = goes_still h i 0 (events.Acq 0 n) refl tt named (omega arith) (record { named = stands.named; is_open = stands.is_open }) refl refl
 
-  begun_futures : (played h i (events.Acq 0 m)).hall.futures ≡ insert h.futures i (record { semaphore = 0; demand = m; plain = true; forgets = false; stage = New })
+  acquire_futures : (played h i (events.Acq 0 n)).hall.futures ≡ insert h.futures i (record { semaphore = 0; demand = n; plain = true; forgets = false; stage = New })
   unfolding played
-  begun_futures = refl
+  acquire_futures = refl
 
-  begun_free : free (played h i (events.Acq 0 m)).hall 0 ≡ free h 0
+  owned_goes : Goes h i 0 (events.Acqo 0 n)
   unfolding played
-  begun_free = refl
+  owned_goes = goes_still h i 0 (events.Acqo 0 n) refl tt named (omega arith) (record { named = stands.named; is_open = stands.is_open }) refl refl
 
-  begun_reply : is_pending (played h i (events.Acq 0 m)).reply ≡ false
-  unfolding played
-  begun_reply = refl
-
-  owned_stands : Stands h → Stands (played h i (events.Acqo 0 m)).hall
-  unfolding played
-  owned_stands stands = record { named = stands.named; is_open = stands.is_open }
-
-  owned_permits : (played h i (events.Acqo 0 m)).hall.permits ≡ h.permits
-  unfolding played
-  owned_permits = refl
-
-  owned_futures : (played h i (events.Acqo 0 m)).hall.futures ≡ insert h.futures i (record { semaphore = 0; demand = m; plain = false; forgets = false; stage = New })
+  owned_futures : (played h i (events.Acqo 0 n)).hall.futures ≡ insert h.futures i (record { semaphore = 0; demand = n; plain = false; forgets = false; stage = New })
   unfolding played
   owned_futures = refl
 
-  owned_free : free (played h i (events.Acqo 0 m)).hall 0 ≡ free h 0
+  -- permits are forgotten, or released
+  exactly_goes : Goes h i 0 (events.Forgetx 0 n)
   unfolding played
-  owned_free = refl
+  exactly_goes = goes_still h i 0 (events.Forgetx 0 n) refl tt named (omega arith) (still_stands h 0 (forgetting_exactly (semaphore_at h 0) n) refl refl stands) refl refl
 
-  owned_reply : is_pending (played h i (events.Acqo 0 m)).reply ≡ false
+  release_goes : live h 0 + n < 2 ^ 64 → Goes h i n (events.Release 0 n)
   unfolding played
-  owned_reply = refl
+  release_goes few = goes_still h i n (events.Release 0 n) refl tt
+      (ap (λ b. if b then (if nat_lt (live h 0 + n) (2 ^ 64) then None else Some stops.Overflow) else Some stops.Unknown) stands.named
+      ∙ ap (λ b. if b then None else Some stops.Overflow) (lt-ltb (live h 0 + n) (2 ^ 64) few)) (omega arith)
+      (pour_stands (released_to h 0 n) 0 n (still_stands h 0 (record (semaphore_at h 0) { released = (semaphore_at h 0).released + n }) refl refl stands)) refl refl
 
--- permits are forgotten, or released
-module _ (h : Hall) (i n : ℕ) where
-  exactly_stands : Stands h → Stands (played h i (events.Forgetx 0 n)).hall
+  forget_goes : Goes h i 0 (events.Forget 0 n)
   unfolding played
-  exactly_stands stands = still_stands h 0 (forgetting_exactly (semaphore_at h 0) n) refl refl stands
+  forget_goes = goes_still h i 0 (events.Forget 0 n) refl tt named (omega arith) (still_stands h 0 (forgetting (semaphore_at h 0) n) refl refl stands) refl refl
 
-  exactly_permits : (played h i (events.Forgetx 0 n)).hall.permits ≡ h.permits
+  forget_free : free h 0 ≤ n → free (played h i (events.Forget 0 n)).hall 0 ≡ 0
   unfolding played
-  exactly_permits = refl
+  forget_free few = by_semaphore h 0 (forgetting (semaphore_at h 0) n) (λ k y. k ≡ 0 → y.free ≡ 0) (λ e. omega (arith, few)) (λ k other e. absurd (other (sym e))) 0 refl
 
-  exactly_reply : is_pending (played h i (events.Forgetx 0 n)).reply ≡ false
-  unfolding played
-  exactly_reply = refl
+-- ---- which futures there are
+-- within a round, where at most b permits are free, held or paid: these futures are there, and no others
+record Holds (who : ℕ → Bool) (i b : ℕ) (h : Hall) : Type 0 where
+  going : Going h i b
+  there : (k : ℕ) → is_some (get h.futures k) ≡ who k
 
-  released_stands : Stands h → Stands (played h i (events.Release 0 n)).hall
-  unfolding played
-  released_stands stands = pour_stands (released_to h 0 n) 0 n
-      (still_stands h 0 (record (semaphore_at h 0) { released = (semaphore_at h 0).released + n }) refl refl stands)
+-- and f has begun
+record Begun (f : ℕ) (x : Future) (who : ℕ → Bool) (i : ℕ) (h : Hall) : Type 0 where
+  holds : Holds who i 0 h
+  is : get h.futures f ≡ Some x
 
-  released_permits : (played h i (events.Release 0 n)).hall.permits ≡ h.permits
-  unfolding played
-  released_permits = refl
+-- an acquire begins f
+begins : (h : Hall) (i f : ℕ) (who : ℕ → Bool) (e : SemEvent) (x : Future) → i ≡ f → Holds who i 0 h → Goes h i 0 e → (played h i e).hall.futures ≡ insert h.futures i x
+    → Begun f x (λ k. (f == k) || who k) (i + 1) (played h i e).hall
+begins h i f who e x same old goes is = record {
+  holds = record {
+    going = goes_on h i 0 0 0 e old.going goes (omega arith);
+    there = λ k. ap (λ m. is_some (get m k)) futures
+        ∙ by_put h.futures f x (λ q o. is_some o ≡ ((f == q) || who q)) (sym (ap (λ b. b || who f) (eq-eqb f f refl)))
+        (λ q apart. old.there q ∙ sym (ap (λ b. b || who q) (ne_eqb f q apart))) k;
+  };
+  is = ap (λ m. get m f) futures ∙ get-there h.futures f x;
+}
+  where
+    futures : (played h i e).hall.futures ≡ insert h.futures f x
+    futures = is ∙ ap (λ k. insert h.futures k x) same
 
-  released_reply : is_pending (played h i (events.Release 0 n)).reply ≡ false
-  unfolding played
-  released_reply = refl
+-- nothing is free where nothing is live
+none_free : (h : Hall) (i : ℕ) → Going h i 0 → free h 0 ≡ 0
+none_free h i going = let few = going.few in omega (arith, few)
 
-  forgot_stands : Stands h → Stands (played h i (events.Forget 0 n)).hall
-  unfolding played
-  forgot_stands stands = still_stands h 0 (forgetting (semaphore_at h 0) n) refl refl stands
+-- its first poll waits
+begun_goes : (h : Hall) (i f w : ℕ) (x : Future) (who : ℕ → Bool) → x.stage ≡ New → x.semaphore ≡ 0 → 0 < x.demand → Begun f x who i h → Goes h i 0 (events.Poll f w)
+begun_goes h i f w x who new of some begun = poll_goes h i f w x begun.is new of (none_free h i begun.holds.going) some begun.holds.going.stands
 
-  forgot_permits : (played h i (events.Forget 0 n)).hall.permits ≡ h.permits
-  unfolding played
-  forgot_permits = refl
+begun_waits : (h : Hall) (i f w : ℕ) (x : Future) (who : ℕ → Bool) → x.stage ≡ New → x.semaphore ≡ 0 → 0 < x.demand → Begun f x who i h → Holds who (i + 1) 0 (played h i (events.Poll f w)).hall
+begun_waits h i f w x who new of some begun = record {
+  going = goes_on h i 0 0 0 (events.Poll f w) begun.holds.going (begun_goes h i f w x who new of some begun) (omega arith);
+  there = λ k. ap (λ m. is_some (get m k)) (waits_futures h i f w x begun.is new of (none_free h i begun.holds.going) some begun.holds.going.stands)
+      ∙ by_put h.futures f (record x { stage = Waiting w }) (λ q o. is_some o ≡ who q) (sym (ap is_some begun.is) ∙ begun.holds.there f)
+      (λ q apart. begun.holds.there q) k;
+}
 
-  forgot_futures : (played h i (events.Forget 0 n)).hall.futures ≡ h.futures
-  unfolding played
-  forgot_futures = refl
+same_bool : (a b : Bool) → (a ≡ true → b ≡ true) → (b ≡ true → a ≡ true) → b ≡ a
+same_bool true b one other = one refl
+same_bool false true one other = sym (other refl)
+same_bool false false one other = refl
 
-  forgot_reply : is_pending (played h i (events.Forget 0 n)).reply ≡ false
-  unfolding played
-  forgot_reply = refl
+-- an event that neither polls, begins nor ends k leaves it
+module _ (h : Hall) (i b c limit : ℕ) (who : ℕ → Bool) (e : SemEvent) (old : Holds who i b h) (goes : Goes h i c e) (most : b + c ≤ limit)
+    (quiet : (k : ℕ) → waker_in e k ≡ None) (none : acquire_in e ≡ None) where
+  left_there : (k : ℕ) → ends e k ≡ false → is_some (get (played h i e).hall.futures k) ≡ who k
+  left_there k other =
+      same_bool (is_some (get h.futures k)) (is_some (get (played h i e).hall.futures k))
+      (λ some. stays h i e old.going.valid old.going.below goes.cause quiet k some other)
+      (λ some. were h i e old.going.valid old.going.below goes.cause quiet none k some)
+      ∙ old.there k
 
-  forgot_free : free h 0 ≤ n → free (played h i (events.Forget 0 n)).hall 0 ≡ 0
-  unfolding played
-  forgot_free few = by_semaphore h 0 (forgetting (semaphore_at h 0) n) (λ k y. k ≡ 0 → y.free ≡ 0) (λ e. omega (arith, few)) (λ k other e. absurd (other (sym e))) 0 refl
+  leaves_all : ((k : ℕ) → ends e k ≡ false) → Holds who (i + 1) limit (played h i e).hall
+  leaves_all ends_none = record { going = goes_on h i b c limit e old.going goes most; there = λ k. left_there k (ends_none k) }
 
--- ---- nine events, one after another
--- all these events are played, and each poll among them replies `pending`
-abbrev pub AllPlay : Hall → ℕ → List SemEvent → Type 0
-AllPlay h i [] = Unit {0}
-AllPlay h i (e ∷ es) = (cause_of h e ≡ None) × (is_semaphore_poll e ≡ true → (played h i e).reply ≡ answers.Pending)
-    × (is_pending (played h i e).reply ≡ is_semaphore_poll e)
-    × AllPlay (played h i e).hall (i + 1) es
+-- f ends
+module _ (h : Hall) (i f b : ℕ) (who : ℕ → Bool) (old : Holds who i b h) (there : who f ≡ true) where
+  value : (x : Future) × (get h.futures f ≡ Some x)
+  value = value_in (get h.futures f) (old.there f ∙ there)
 
--- the hall after these events
-abbrev pub after : Hall → ℕ → List SemEvent → Hall
-after h i [] = h
-after h i (e ∷ es) = after (played h i e).hall (i + 1) es
+  last_goes : Goes h i 0 (events.End f)
+  last_goes = end_goes h i f value.0 value.1 old.going.stands
 
--- no poll
-still : (e : SemEvent) → is_semaphore_poll e ≡ false → (h : Hall) (i : ℕ) → is_semaphore_poll e ≡ true → (played h i e).reply ≡ answers.Pending
-still e not_poll h i poll = absurd (cc)
+  last_ends : Holds (λ k. if f == k then false else who k) (i + 1) b (played h i (events.End f)).hall
+  last_ends = record {
+    going = goes_on h i b 0 b (events.End f) old.going last_goes (omega arith);
+    there = λ k. by_name f k
+        (λ e. ap (λ n. is_some (get (played h i (events.End f)).hall.futures n)) (sym e) ∙ ap is_some (ends_gone h i f value.0 value.1)
+        ∙ sym (ap (λ t. if t then false else who k) (eq-eqb f k e)))
+        (λ apart. left_there h i b 0 b who (events.End f) old last_goes (omega arith) (λ j. refl) refl k (ne_eqb f k apart)
+        ∙ sym (ap (λ t. if t then false else who k) (ne_eqb f k apart)));
+  }
 
--- between two rounds nothing is live
-none_live : (h : Hall) → IsBetweenRounds h → live h 0 ≤ 0
-none_live h idle =
-    let held_none = total-zero (λ k (p : Permit). cond (p.semaphore == 0) p.size 0) h.permits (λ k p is. absurd (let none = idle.no_permit k in cc)) in
-    let paid_none = total-zero (λ f (x : Future). cond (x.semaphore == 0) (paid_to (queue_at h 0) f x.demand x.stage) 0) h.futures
-    (λ f x is. absurd (let none = idle.no_future f in cc)) in
-    let free_none = idle.none_free in
-    omega (arith, held_none, paid_none, free_none)
+-- ---- a round
+-- a hall between two rounds, of which f is the number of the next event
+pub record IsReady (h : Hall) (f : ℕ) : Type 0 where
+  pub valid : IsValid h
+  pub below : IsBelow h f
+  pub between : IsBetweenRounds h
 
-module _ (h : Hall) (f g v w m n c d : ℕ) (same : f + 1 + 1 ≡ g) (valid : IsValid h) (below : IsBelow h f) (idle : IsBetweenRounds h) (some_m : 0 < m)
-    (some_n : 0 < n) (few_d : d < 8) where
+-- between two rounds nothing is live, and nobody is there
+at_first : (h : Hall) (f : ℕ) → IsReady h f → Holds (λ k. false) f 0 h
+at_first h f ready =
+    let idle = ready.between in record {
+      going = record {
+        valid = ready.valid;
+        below = ready.below;
+        stands = record { named = idle.named; is_open = idle.is_open };
+        no_permit = idle.no_permit;
+        few =
+            let held_none = total-zero (λ k (p : Permit). cond (p.semaphore == 0) p.size 0) h.permits (λ k p is. absurd (let none = idle.no_permit k in cc)) in
+            let paid_none = total-zero (λ f (x : Future). cond (x.semaphore == 0) (paid_to (queue_at h 0) f x.demand x.stage) 0) h.futures
+            (λ f x is. absurd (let none = idle.no_future f in cc)) in
+            let free_none = idle.none_free in
+            omega (arith, held_none, paid_none, free_none);
+      };
+      there = λ k. ap is_some (idle.no_future k);
+    }
+
+or_true : (a : Bool) → (a || true) ≡ true
+or_true true = refl
+or_true false = refl
+
+-- who was there, but for f and g
+nobody : (a b : Bool) → (if a then false else (if b then false else (a || (b || false)))) ≡ false
+nobody true b = refl
+nobody false true = refl
+nobody false false = refl
+
+module _ (f g v w m n c d : ℕ) (same : f + 1 + 1 ≡ g) (some_m : 0 < m) (some_n : 0 < n) (few_d : d < 8) where
   apart : f ≡ g → ⊥
   apart e = absurd (omega (arith, same, e))
+
+  abbrev first : ℕ → Bool
+  first k = (f == k) || false
+
+  abbrev both : ℕ → Bool
+  both k = (g == k) || first k
+
+  abbrev second : ℕ → Bool
+  second k = if f == k then false else both k
+
+  abbrev neither : ℕ → Bool
+  neither k = if g == k then false else second k
 
   abbrev x1 : Future
   x1 = record { semaphore = 0; demand = m; plain = true; forgets = false; stage = New }
@@ -314,268 +411,79 @@ module _ (h : Hall) (f g v w m n c d : ℕ) (same : f + 1 + 1 ≡ g) (valid : Is
   abbrev x2 : Future
   x2 = record { semaphore = 0; demand = n; plain = false; forgets = false; stage = New }
 
-  abbrev e1 : SemEvent
-  e1 = events.Acq 0 m
-
-  abbrev e2 : SemEvent
-  e2 = events.Poll f v
-
-  abbrev e3 : SemEvent
-  e3 = events.Acqo 0 n
-
-  abbrev e4 : SemEvent
-  e4 = events.Poll g w
-
-  abbrev e5 : SemEvent
-  e5 = events.Forgetx 0 c
-
-  abbrev e6 : SemEvent
-  e6 = events.Release 0 d
-
-  abbrev e7 : SemEvent
-  e7 = events.End f
-
-  abbrev e8 : SemEvent
-  e8 = events.End g
-
-  abbrev e9 : SemEvent
-  e9 = events.Forget 0 18446744073709551615
-
-  abbrev i1 : ℕ
-  i1 = f + 1
-
-  abbrev i2 : ℕ
-  i2 = i1 + 1
-
-  abbrev i3 : ℕ
-  i3 = i2 + 1
-
-  abbrev i4 : ℕ
-  i4 = i3 + 1
-
-  abbrev i5 : ℕ
-  i5 = i4 + 1
-
-  abbrev i6 : ℕ
-  i6 = i5 + 1
-
-  abbrev i7 : ℕ
-  i7 = i6 + 1
-
-  abbrev i8 : ℕ
-  i8 = i7 + 1
-
-  abbrev h1 : Hall
-  h1 = (played h f e1).hall
-
-  abbrev h2 : Hall
-  h2 = (played h1 i1 e2).hall
-
-  abbrev h3 : Hall
-  h3 = (played h2 i2 e3).hall
-
-  abbrev h4 : Hall
-  h4 = (played h3 i3 e4).hall
-
-  abbrev h5 : Hall
-  h5 = (played h4 i4 e5).hall
-
-  abbrev h6 : Hall
-  h6 = (played h5 i5 e6).hall
-
-  abbrev h7 : Hall
-  h7 = (played h6 i6 e7).hall
-
-  abbrev h8 : Hall
-  h8 = (played h7 i7 e8).hall
-
-  abbrev h9 : Hall
-  h9 = (played h8 i8 e9).hall
-
-  g0 : Going h f 0
-  g0 = record { valid = valid; below = below; stands = record { named = idle.named; is_open = idle.is_open }; no_permit = idle.no_permit; few = none_live h idle }
-
-  -- the first acquire
-  c1 : cause_of h e1 ≡ None
-  c1 = allowed (is_named h 0) g0.stands.named
-
-  g1 : Going h1 i1 0
-  g1 = goes_on h f 0 0 e1 g0 tt c1 (omega arith) (begun_stands h f m g0.stands) (begun_permits h f m)
-
-  futures1 : h1.futures ≡ insert h.futures f x1
-  futures1 = begun_futures h f m
-
-  there1 : get h1.futures f ≡ Some x1
-  there1 = ap (λ k. get k f) futures1 ∙ get-there h.futures f x1
-
-  none1 : free h1 0 ≡ 0
-  none1 = begun_free h f m ∙ idle.none_free
-
-  c2 : cause_of h1 e2 ≡ None
-  c2 = waits_cause h1 i1 f v x1 there1 refl refl none1 some_m g1.stands
-
-  g2 : Going h2 i2 0
-  g2 = goes_on h1 i1 0 0 e2 g1 tt c2 (omega arith) (waits_stands h1 i1 f v x1 there1 refl refl none1 some_m g1.stands)
-      (waits_permits h1 i1 f v x1 there1 refl refl none1 some_m g1.stands)
-
-  none2 : free h2 0 ≡ 0
-  none2 = waits_free h1 i1 f v x1 there1 refl refl none1 some_m g1.stands
-
-  -- the second acquire
-  c3 : cause_of h2 e3 ≡ None
-  c3 = allowed (is_named h2 0) g2.stands.named
-
-  g3 : Going h3 i3 0
-  g3 = goes_on h2 i2 0 0 e3 g2 tt c3 (omega arith) (owned_stands h2 i2 n g2.stands) (owned_permits h2 i2 n)
-
-  futures3 : h3.futures ≡ insert h2.futures i2 x2
-  futures3 = owned_futures h2 i2 n
-
-  there3 : get h3.futures g ≡ Some x2
-  there3 = ap (get h3.futures) (sym same) ∙ ap (λ k. get k i2) futures3 ∙ get-there h2.futures i2 x2
-
-  none3 : free h3 0 ≡ 0
-  none3 = owned_free h2 i2 n ∙ none2
-
-  c4 : cause_of h3 e4 ≡ None
-  c4 = waits_cause h3 i3 g w x2 there3 refl refl none3 some_n g3.stands
-
-  g4 : Going h4 i4 0
-  g4 = goes_on h3 i3 0 0 e4 g3 tt c4 (omega arith) (waits_stands h3 i3 g w x2 there3 refl refl none3 some_n g3.stands)
-      (waits_permits h3 i3 g w x2 there3 refl refl none3 some_n g3.stands)
-
-  -- the two futures are there, and no others
-  futures2 : h2.futures ≡ insert h1.futures f (record x1 { stage = Waiting v })
-  futures2 = waits_futures h1 i1 f v x1 there1 refl refl none1 some_m g1.stands
-
-  futures4 : h4.futures ≡ insert h3.futures g (record x2 { stage = Waiting w })
-  futures4 = waits_futures h3 i3 g w x2 there3 refl refl none3 some_n g3.stands
-
-  first4 : IsSome (get h4.futures f)
-  first4 = ap (λ k. is_some (get k f)) futures4 ∙ ap is_some (get-other h3.futures g f (record x2 { stage = Waiting w }) (λ e. apart (sym e))
-      ∙ ap (λ k. get k f) futures3 ∙ get-other h2.futures i2 f x2 (λ e. apart (sym e ∙ same)) ∙ ap (λ k. get k f) futures2 ∙ get-there h1.futures f (record x1 { stage = Waiting v }))
-
-  second4 : IsSome (get h4.futures g)
-  second4 = ap (λ k. is_some (get k g)) futures4 ∙ ap is_some (get-there h3.futures g (record x2 { stage = Waiting w }))
-
-  only4 : (k : ℕ) → (f ≡ k → ⊥) → (g ≡ k → ⊥) → get h4.futures k ≡ None
-  only4 k not_f not_g = ap (λ m. get m k) futures4 ∙ get-other h3.futures g k (record x2 { stage = Waiting w }) not_g
-      ∙ ap (λ m. get m k) futures3 ∙ get-other h2.futures i2 k x2 (λ e. not_g (sym same ∙ e)) ∙ ap (λ m. get m k) futures2 ∙ get-other h1.futures f k (record x1 { stage = Waiting v }) not_f
-      ∙ ap (λ m. get m k) futures1 ∙ get-other h.futures f k x1 not_f ∙ idle.no_future k
-
-  -- some permits are forgotten, and some released
-  c5 : cause_of h4 e5 ≡ None
-  c5 = allowed (is_named h4 0) g4.stands.named
-
-  g5 : Going h5 i5 0
-  g5 = goes_on h4 i4 0 0 e5 g4 tt c5 (omega arith) (exactly_stands h4 i4 c g4.stands) (exactly_permits h4 i4 c)
-
-  c6 : cause_of h5 e6 ≡ None
-  c6 =
-      let few = g5.few in
-      let fits : nat_lt (live h5 0 + d) (2 ^ 64) ≡ true = lt-ltb (live h5 0 + d) (2 ^ 64) (omega (arith, few, few_d)) in
-      ap (λ b. if b then (if nat_lt (live h5 0 + d) (2 ^ 64) then None else Some stops.Overflow) else Some stops.Unknown) g5.stands.named
-      ∙ ap (λ b. if b then None else Some stops.Overflow) fits
-
-  g6 : Going h6 i6 (0 + d)
-  g6 = goes_on h5 i5 0 d e6 g5 tt c6 (omega arith) (released_stands h5 i5 d g5.stands) (released_permits h5 i5 d)
-
-  quiet_forgetx : (k : ℕ) → waker_in e5 k ≡ None
-  quiet_forgetx k = refl
-
-  quiet_release : (k : ℕ) → waker_in e6 k ≡ None
-  quiet_release k = refl
-
-  quiet_end : (j k : ℕ) → waker_in (events.End j) k ≡ None
-  quiet_end j k = refl
-
-  first6 : IsSome (get h6.futures f)
-  first6 = stays h5 i5 e6 g5.valid g5.below c6 quiet_release f (stays h4 i4 e5 g4.valid g4.below c5 quiet_forgetx f first4 refl) refl
-
-  second6 : IsSome (get h6.futures g)
-  second6 = stays h5 i5 e6 g5.valid g5.below c6 quiet_release g (stays h4 i4 e5 g4.valid g4.below c5 quiet_forgetx g second4 refl) refl
+  -- all free permits are forgotten
+  forgotten : (h : Hall) (i : ℕ) → Holds neither i d h → PlaysTo h i (events.Forget 0 18446744073709551615 ∷ []) IsReady
+  forgotten h i old =
+      let goes = forget_goes h i 18446744073709551615 old.going.stands in
+      let held = leaves_all h i d 0 d neither (events.Forget 0 18446744073709551615) old goes (omega arith) (λ k. refl) refl (λ k. refl) in record {
+        plays = (goes.cause, goes.waits, goes.reply, tt);
+        leaves = record {
+          valid = held.going.valid;
+          below = held.going.below;
+          between = record {
+            named = held.going.stands.named;
+            is_open = held.going.stands.is_open;
+            none_free = forget_free h i 18446744073709551615 old.going.stands (let few = old.going.few in omega (arith, few, few_d));
+            no_future = λ k. is_absent (get (played h i (events.Forget 0 18446744073709551615)).hall.futures k) (λ some. absurd (let none = held.there k ∙ nobody (g == k) (f == k) in cc));
+            no_permit = held.going.no_permit;
+          };
+        };
+      }
 
   -- both acquires end
-  y1 : (x : Future) × (get h6.futures f ≡ Some x)
-  y1 = value_in (get h6.futures f) first6
+  ended_second : (h : Hall) (i : ℕ) → Holds second i d h → PlaysTo h i (events.End g ∷ events.Forget 0 18446744073709551615 ∷ []) IsReady
+  ended_second h i old =
+      let there : second g ≡ true = ap (λ b. if b then false else both g) (ne_eqb f g apart) ∙ ap (λ b. b || first g) (eq-eqb g g refl) in
+      next h i 0 (events.End g) (events.Forget 0 18446744073709551615 ∷ []) (Holds neither (i + 1) d) IsReady (last_goes h i g d second old there) (last_ends h i g d second old there)
+      (λ k. forgotten k (i + 1))
 
-  c7 : cause_of h6 e7 ≡ None
-  c7 = end_cause h6 i6 f y1.0 y1.1
+  ended_first : (h : Hall) (i : ℕ) → Holds both i d h → PlaysTo h i (events.End f ∷ events.End g ∷ events.Forget 0 18446744073709551615 ∷ []) IsReady
+  ended_first h i old =
+      let there : both f ≡ true = ap (λ b. (g == f) || (b || false)) (eq-eqb f f refl) ∙ or_true (g == f) in
+      next h i 0 (events.End f) (events.End g ∷ events.Forget 0 18446744073709551615 ∷ []) (Holds second (i + 1) d) IsReady (last_goes h i f d both old there) (last_ends h i f d both old there)
+      (λ k. ended_second k (i + 1))
 
-  g7 : Going h7 i7 (0 + d + 0)
-  g7 = goes_on h6 i6 (0 + d) 0 e7 g6 tt c7 (omega arith) (ends_stands h6 i6 f y1.0 y1.1 g6.stands) (ends_permits h6 i6 f y1.0 y1.1)
+  abbrev ending : List SemEvent
+  ending = events.End f ∷ events.End g ∷ events.Forget 0 18446744073709551615 ∷ []
 
-  second7 : IsSome (get h7.futures g)
-  second7 = stays h6 i6 e7 g6.valid g6.below c7 (quiet_end f) g second6 (ne_eqb f g apart)
+  -- some permits are forgotten, and some released
+  released : (h : Hall) (i : ℕ) → Holds both i 0 h → PlaysTo h i (events.Release 0 d ∷ ending) IsReady
+  released h i old =
+      let goes = release_goes h i d old.going.stands (let few = old.going.few in omega (arith, few, few_d)) in
+      next h i d (events.Release 0 d) ending (Holds both (i + 1) d) IsReady goes (leaves_all h i 0 d d both (events.Release 0 d) old goes (omega arith) (λ k. refl) refl (λ k. refl))
+      (λ k. ended_first k (i + 1))
 
-  y2 : (x : Future) × (get h7.futures g ≡ Some x)
-  y2 = value_in (get h7.futures g) second7
+  lowered : (h : Hall) (i : ℕ) → Holds both i 0 h → PlaysTo h i (events.Forgetx 0 c ∷ events.Release 0 d ∷ ending) IsReady
+  lowered h i old =
+      let goes = exactly_goes h i c old.going.stands in
+      next h i 0 (events.Forgetx 0 c) (events.Release 0 d ∷ ending) (Holds both (i + 1) 0) IsReady goes
+      (leaves_all h i 0 0 0 both (events.Forgetx 0 c) old goes (omega arith) (λ k. refl) refl (λ k. refl)) (λ k. released k (i + 1))
 
-  c8 : cause_of h7 e8 ≡ None
-  c8 = end_cause h7 i7 g y2.0 y2.1
+  abbrev changes : List SemEvent
+  changes = events.Forgetx 0 c ∷ events.Release 0 d ∷ ending
 
-  g8 : Going h8 i8 (0 + d + 0 + 0)
-  g8 = goes_on h7 i7 (0 + d + 0) 0 e8 g7 tt c8 (omega arith) (ends_stands h7 i7 g y2.0 y2.1 g7.stands) (ends_permits h7 i7 g y2.0 y2.1)
+  -- the second acquire waits
+  waits_second : (h : Hall) (i : ℕ) → Begun g x2 both i h → PlaysTo h i (events.Poll g w ∷ changes) IsReady
+  waits_second h i begun =
+      next h i 0 (events.Poll g w) changes (Holds both (i + 1) 0) IsReady (begun_goes h i g w x2 both refl refl some_n begun) (begun_waits h i g w x2 both refl refl some_n begun)
+      (λ k. lowered k (i + 1))
 
-  -- all free permits are forgotten
-  c9 : cause_of h8 e9 ≡ None
-  c9 = allowed (is_named h8 0) g8.stands.named
+  begins_second : (h : Hall) (i : ℕ) → i ≡ g → Holds first i 0 h → PlaysTo h i (events.Acqo 0 n ∷ events.Poll g w ∷ changes) IsReady
+  begins_second h i is old =
+      let goes = owned_goes h i n old.going.stands in
+      next h i 0 (events.Acqo 0 n) (events.Poll g w ∷ changes) (Begun g x2 both (i + 1)) IsReady goes
+      (begins h i g first (events.Acqo 0 n) x2 is old goes (owned_futures h i n old.going.stands)) (λ k. waits_second k (i + 1))
 
-  g9 : Going h9 (i8 + 1) (0 + d + 0 + 0 + 0)
-  g9 = goes_on h8 i8 (0 + d + 0 + 0) 0 e9 g8 tt c9 (omega arith) (forgot_stands h8 i8 18446744073709551615 g8.stands) (forgot_permits h8 i8 18446744073709551615)
+  -- the first acquire waits
+  waits_first : (h : Hall) → Begun f x1 first (f + 1) h → PlaysTo h (f + 1) (events.Poll f v ∷ events.Acqo 0 n ∷ events.Poll g w ∷ changes) IsReady
+  waits_first h begun =
+      next h (f + 1) 0 (events.Poll f v) (events.Acqo 0 n ∷ events.Poll g w ∷ changes) (Holds first (f + 1 + 1) 0) IsReady
+      (begun_goes h (f + 1) f v x1 first refl refl some_m begun) (begun_waits h (f + 1) f v x1 first refl refl some_m begun) (λ k. begins_second k (f + 1 + 1) same)
 
-  none9 : free h9 0 ≡ 0
-  none9 = forgot_free h8 i8 18446744073709551615 (let few = g8.few in omega (arith, few, few_d))
-
-  in_h8 : (k : ℕ) → IsSome (get h9.futures k) → IsSome (get h8.futures k)
-  in_h8 k some = ap (λ m. is_some (get m k)) (sym (forgot_futures h8 i8 18446744073709551615)) ∙ some
-
-  -- who is there at the end was there before
-  back : (k : ℕ) → IsSome (get h9.futures k) → IsSome (get h7.futures k)
-  back k some = were h7 i7 e8 g7.valid g7.below c8 (quiet_end g) refl k (in_h8 k some)
-
-  none_left : (k : ℕ) → get h9.futures k ≡ None
-  none_left k = is_absent (get h9.futures k) (λ some. by_name f k
-      (λ e. absurd (let there = back k some in let gone = ap (get h7.futures) (sym e) ∙ ends_gone h6 i6 f y1.0 y1.1 in cc))
-      (λ not_f. by_name g k
-      (λ e. absurd (let there = in_h8 k some in let gone = ap (get h8.futures) (sym e) ∙ ends_gone h7 i7 g y2.0 y2.1 in cc))
-      (λ not_g. absurd (
-      let was = were h4 i4 e5 g4.valid g4.below c5 quiet_forgetx refl k (were h5 i5 e6 g5.valid g5.below c6 quiet_release refl k
-      (were h6 i6 e7 g6.valid g6.below c7 (quiet_end f) refl k (back k some))) in
-      let none = only4 k not_f not_g in cc))))
-
-  pub round_between : IsBetweenRounds h9
-  round_between = record { named = g9.stands.named; is_open = g9.stands.is_open; none_free = none9; no_future = none_left; no_permit = g9.no_permit }
-
-  pub round_valid : IsValid h9
-  round_valid = g9.valid
-
-  pub round_below : IsBelow h9 (i8 + 1)
-  round_below = g9.below
-
-  pub round_plays : AllPlay h f (e1 ∷ e2 ∷ e3 ∷ e4 ∷ e5 ∷ e6 ∷ e7 ∷ e8 ∷ e9 ∷ [])
-  round_plays = (c1, still e1 refl h f, begun_reply h f m, plays2)
-    where
-      pending2 : (played h1 i1 e2).reply ≡ answers.Pending
-      pending2 = ap (λ (o : Outcome). o.reply) (waits h1 i1 f v x1 there1 refl refl none1 some_m g1.stands)
-
-      pending4 : (played h3 i3 e4).reply ≡ answers.Pending
-      pending4 = ap (λ (o : Outcome). o.reply) (waits h3 i3 g w x2 there3 refl refl none3 some_n g3.stands)
-
-      plays9 : AllPlay h8 i8 (e9 ∷ [])
-      plays9 = (c9, still e9 refl h8 i8, forgot_reply h8 i8 18446744073709551615, tt)
-
-      plays8 : AllPlay h7 i7 (e8 ∷ e9 ∷ [])
-      plays8 = (c8, still e8 refl h7 i7, ends_reply h7 i7 g y2.0 y2.1, plays9)
-
-      plays7 : AllPlay h6 i6 (e7 ∷ e8 ∷ e9 ∷ [])
-      plays7 = (c7, still e7 refl h6 i6, ends_reply h6 i6 f y1.0 y1.1, plays8)
-
-      plays5 : AllPlay h4 i4 (e5 ∷ e6 ∷ e7 ∷ e8 ∷ e9 ∷ [])
-      plays5 = (c5, still e5 refl h4 i4, exactly_reply h4 i4 c, (c6, still e6 refl h5 i5, released_reply h5 i5 d, plays7))
-
-      plays3 : AllPlay h2 i2 (e3 ∷ e4 ∷ e5 ∷ e6 ∷ e7 ∷ e8 ∷ e9 ∷ [])
-      plays3 = (c3, still e3 refl h2 i2, owned_reply h2 i2 n, (c4, (λ poll. pending4), ap is_pending pending4, plays5))
-
-      plays2 : AllPlay h1 i1 (e2 ∷ e3 ∷ e4 ∷ e5 ∷ e6 ∷ e7 ∷ e8 ∷ e9 ∷ [])
-      plays2 = (c2, (λ poll. pending2), ap is_pending pending2, plays3)
+  -- a round is played, and leaves a hall between two rounds
+  pub round_comes : (h : Hall) → IsReady h f → PlaysTo h f (events.Acq 0 m ∷ events.Poll f v ∷ events.Acqo 0 n ∷ events.Poll g w ∷ changes) IsReady
+  round_comes h ready =
+      let old = at_first h f ready in
+      let goes = acquire_goes h f m old.going.stands in
+      next h f 0 (events.Acq 0 m) (events.Poll f v ∷ events.Acqo 0 n ∷ events.Poll g w ∷ changes) (Begun f x1 first (f + 1)) IsReady goes
+      (begins h f f (λ k. false) (events.Acq 0 m) x1 refl old goes (acquire_futures h f m old.going.stands)) (λ k. waits_first k)
