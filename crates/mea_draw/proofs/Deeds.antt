@@ -1,6 +1,6 @@
 -- the deeds of events poll what the families say
-use Rattle.std.proofs.Common.{◌≡◌, ℕ, refl}
-use Rattle.mea_events.specs.declared.event.Event.TheVariants.{Sem, Meet, Lock, Chan, Share, Once}
+use Rattle.std.proofs.Common.{◌≡◌, ◌==◌, ◌&&◌, ℕ, Bool, true, false, Option, Some, None, refl, ap, sym, ◌∙◌, if◌then◌else◌}
+use Rattle.mea_events.specs.declared.event.Event.TheVariants.{Sem, Share}
 use Rattle.mea_events.specs.declared.sem_event.SemEvent.{SemEvent}
 use Rattle.mea_events.specs.declared.sem_event.SemEvent.TheVariants as sems
 use Rattle.mea_events.specs.declared.meet_event.MeetEvent.{MeetEvent}
@@ -16,184 +16,202 @@ use Rattle.mea_events.specs.declared.once_event.OnceEvent.TheVariants as onces
 use Rattle.mea_sem_model.specs.Runs as sem
 use Rattle.mea_meet_model.specs.Hall as kinds
 use Rattle.mea_meet_model.specs.Hall.{Latches, Shutdowns}
+use Rattle.mea_meet_model.specs.BarrierActions.{polled_at}
+use Rattle.mea_meet_model.specs.CountActions as counts
+use Rattle.mea_meet_model.specs.Meaning as meet_meaning
+use Rattle.mea_meet_model.specs.Meaning.{OnBarriers, OnCounts}
 use Rattle.mea_meet_model.specs.Meets as meet
 use Rattle.mea_lock_model.specs.LockHall.{Mutexes, RwLocks}
+use Rattle.mea_lock_model.specs.Actions as lock_actions
+use Rattle.mea_lock_model.specs.CondActions.{polled_on}
+use Rattle.mea_lock_model.specs.Meaning as lock_meaning
+use Rattle.mea_lock_model.specs.Meaning.{OnLocks, OnCondvars}
 use Rattle.mea_lock_model.specs.LockFamily as lock
-use Rattle.mea_lock_model.specs.Meaning.{meaning_of}
 use Rattle.mea_chan_model.specs.ChanHall.{Unbounded, Oneshots, ReceiverOf, ReceiverOfBounded}
+use Rattle.mea_chan_model.specs.MailboxActions as mailboxes
+use Rattle.mea_chan_model.specs.BoundedActions.{bounded_polled}
+use Rattle.mea_chan_model.specs.BroadcastActions.{broadcast_polled}
+use Rattle.mea_chan_model.specs.Meaning as chan_meaning
+use Rattle.mea_chan_model.specs.Meaning.{OfChannels, OfBounded, OfBroadcasts, OfBoxes}
 use Rattle.mea_chan_model.specs.ChanFamily as chan
 use Rattle.mea_share_model.specs.ShareFamily as share
+use Rattle.mea_once_model.specs.OnceHall as once_kinds
 use Rattle.mea_once_model.specs.OnceHall.{Onces, OnceCells, Maps, Groups}
+use Rattle.mea_once_model.specs.Actions as cells
+use Rattle.mea_once_model.specs.KeyActions.{KeyAction, key_polled}
+use Rattle.mea_once_model.specs.Meaning as once_meaning
+use Rattle.mea_once_model.specs.Meaning.{OfCells, OfTables}
 use Rattle.mea_once_model.specs.OnceFamily as once
+use Rattle.mea_marks.specs.declared.sort.Sort.{Sort}
 use Rattle.mea_marks.specs.declared.sort.Sort.TheVariants as sorts
+use Rattle.mea_marks.specs.declared.thing.Thing.{Thing}
 use Rattle.mea_marks.specs.Deeds.{deed_of, semaphore_deed, meet_deed, lock_deed, chan_deed, share_deed, once_deed}
 use Rattle.mea_marks.specs.Marks.{thing_of}
 use Rattle.mea_marks.specs.Sorts.{code_of}
 use Rattle.mea_draw.specs.Model.{polled_by, meet_thing_as, lock_thing_as, chan_thing, once_thing, PollsAlike}
 
+-- ---- what an event polls, by its meaning
+-- the one sort of things that it may poll, and with which waker it polls the thing of a name, if it does
+record Polling : Type 0 where
+  sort : Sort
+  waker : ℕ → Option ℕ
+
+-- the waker with which a thing is polled
+abbrev waker_for : Polling → Thing → Option ℕ
+waker_for p x = if code_of p.sort == code_of x.sort then p.waker x.name else None
+
+-- the thing of this sort and name is polled with w
+polls : (a b : Bool) (w : ℕ) → (if a then (if b then Some w else None) else None) ≡ (if a && b then Some w else None)
+polls true b w = refl
+polls false b w = refl
+
+-- nothing is polled
+never : (a : Bool) → ◌≡◌ {A = Option ℕ} (if a then None else None) None
+never true = refl
+never false = refl
+
+-- ---- semaphores
 semaphores_poll : (e : SemEvent) (f : ℕ) → sem.waker_in e f ≡ polled_by (deed_of (Sem e)) (thing_of sorts.Acquire f)
 unfolding semaphore_deed code_of
 semaphores_poll (sems.Poll g w) f = refl
 semaphores_poll _ f = refl
 
-arrivals_poll : (e : MeetEvent) (f : ℕ) → meet.polled e (record { sort = meet.AtBarrier; name = f }) ≡ polled_by (deed_of (Meet e)) (thing_of sorts.Arrival f)
-unfolding meet_deed code_of
-arrivals_poll (meets.BarPoll g w) f = refl
-arrivals_poll (meets.LatPoll g w) f = refl
-arrivals_poll (meets.WgPoll g w) f = refl
-arrivals_poll (meets.SdPoll g w) f = refl
-arrivals_poll _ f = refl
+-- ---- meeting points
+-- what an event of them polls
+abbrev meet_polls : meet_meaning.Meaning → Polling
+meet_polls (OnBarriers a) = record { sort = sorts.Arrival; waker = λ f. polled_at a f }
+meet_polls (OnCounts Latches a) = record { sort = sorts.LatchWait; waker = λ f. counts.polled_in a f }
+meet_polls (OnCounts kinds.Groups a) = record { sort = sorts.GroupWait; waker = λ f. counts.polled_in a f }
+meet_polls (OnCounts Shutdowns a) = record { sort = sorts.Signal; waker = λ f. counts.polled_in a f }
 
-latches_poll : (e : MeetEvent) (f : ℕ) → meet.polled e (record { sort = meet.Of Latches; name = f }) ≡ polled_by (deed_of (Meet e)) (thing_of sorts.LatchWait f)
-unfolding meet_deed code_of
-latches_poll (meets.BarPoll g w) f = refl
-latches_poll (meets.LatPoll g w) f = refl
-latches_poll (meets.WgPoll g w) f = refl
-latches_poll (meets.SdPoll g w) f = refl
-latches_poll _ f = refl
+-- by its meaning it polls the futures of its family
+meets_by : (m : meet_meaning.Meaning) (s : meet.Sort) (f : ℕ) → meet.polled_by m s f ≡ waker_for (meet_polls m) (meet_thing_as s f)
+unfolding code_of
+meets_by (OnBarriers a) (meet.Of Latches) f = refl
+meets_by (OnCounts Latches a) (meet.Of Latches) f = refl
+meets_by (OnCounts kinds.Groups a) (meet.Of Latches) f = refl
+meets_by (OnCounts Shutdowns a) (meet.Of Latches) f = refl
+meets_by _ _ f = refl
 
-groups_poll : (e : MeetEvent) (f : ℕ) → meet.polled e (record { sort = meet.Of kinds.Groups; name = f }) ≡ polled_by (deed_of (Meet e)) (thing_of sorts.GroupWait f)
-unfolding meet_deed code_of
-groups_poll (meets.BarPoll g w) f = refl
-groups_poll (meets.LatPoll g w) f = refl
-groups_poll (meets.WgPoll g w) f = refl
-groups_poll (meets.SdPoll g w) f = refl
-groups_poll _ f = refl
+-- and so does its deed
+meets_deed : (e : MeetEvent) (x : Thing) → waker_for (meet_polls (meet_meaning.meaning_of e)) x ≡ polled_by (meet_deed e) x
+unfolding meet_deed
+meets_deed (meets.BarPoll g w) x = polls (code_of sorts.Arrival == code_of x.sort) (g == x.name) w
+meets_deed (meets.LatPoll g w) x = polls (code_of sorts.LatchWait == code_of x.sort) (g == x.name) w
+meets_deed (meets.WgPoll g w) x = polls (code_of sorts.GroupWait == code_of x.sort) (g == x.name) w
+meets_deed (meets.SdPoll g w) x = polls (code_of sorts.Signal == code_of x.sort) (g == x.name) w
+meets_deed e x = never (code_of (meet_polls (meet_meaning.meaning_of e)).sort == code_of x.sort)
 
-signals_poll : (e : MeetEvent) (f : ℕ) → meet.polled e (record { sort = meet.Of Shutdowns; name = f }) ≡ polled_by (deed_of (Meet e)) (thing_of sorts.Signal f)
-unfolding meet_deed code_of
-signals_poll (meets.BarPoll g w) f = refl
-signals_poll (meets.LatPoll g w) f = refl
-signals_poll (meets.WgPoll g w) f = refl
-signals_poll (meets.SdPoll g w) f = refl
-signals_poll _ f = refl
+-- ---- locks
+-- what an event of locks and condition variables polls
+abbrev lock_polls : lock_meaning.Meaning → Polling
+lock_polls (OnLocks Mutexes a) = record { sort = sorts.Lock; waker = λ f. lock_actions.polled_in a f }
+lock_polls (OnLocks RwLocks a) = record { sort = sorts.Access; waker = λ f. lock_actions.polled_in a f }
+lock_polls (OnCondvars a) = record { sort = sorts.CondvarWait; waker = λ f. polled_on a f }
 
-mutexes_poll : (e : LockEvent) (f : ℕ) → lock.polled_by (meaning_of e) (lock.Of Mutexes) f ≡ polled_by (deed_of (Lock e)) (thing_of sorts.Lock f)
-unfolding lock_deed code_of
-mutexes_poll (locks.MxPoll g w) f = refl
-mutexes_poll (locks.RwPoll g w) f = refl
-mutexes_poll (locks.CvPoll g w) f = refl
-mutexes_poll _ f = refl
+locks_by : (m : lock_meaning.Meaning) (s : lock.Sort) (f : ℕ) → lock.polled_by m s f ≡ waker_for (lock_polls m) (lock_thing_as s f)
+unfolding code_of
+locks_by (OnLocks Mutexes a) (lock.Of Mutexes) f = refl
+locks_by (OnLocks RwLocks a) (lock.Of Mutexes) f = refl
+locks_by (OnCondvars a) (lock.Of Mutexes) f = refl
+locks_by _ _ f = refl
 
-accesses_poll : (e : LockEvent) (f : ℕ) → lock.polled_by (meaning_of e) (lock.Of RwLocks) f ≡ polled_by (deed_of (Lock e)) (thing_of sorts.Access f)
-unfolding lock_deed code_of
-accesses_poll (locks.MxPoll g w) f = refl
-accesses_poll (locks.RwPoll g w) f = refl
-accesses_poll (locks.CvPoll g w) f = refl
-accesses_poll _ f = refl
+locks_deed : (e : LockEvent) (x : Thing) → waker_for (lock_polls (lock_meaning.meaning_of e)) x ≡ polled_by (lock_deed e) x
+unfolding lock_deed
+locks_deed (locks.MxPoll g w) x = polls (code_of sorts.Lock == code_of x.sort) (g == x.name) w
+locks_deed (locks.RwPoll g w) x = polls (code_of sorts.Access == code_of x.sort) (g == x.name) w
+locks_deed (locks.CvPoll g w) x = polls (code_of sorts.CondvarWait == code_of x.sort) (g == x.name) w
+locks_deed e x = never (code_of (lock_polls (lock_meaning.meaning_of e)).sort == code_of x.sort)
 
-waits_poll : (e : LockEvent) (f : ℕ) → lock.polled_by (meaning_of e) lock.Waits f ≡ polled_by (deed_of (Lock e)) (thing_of sorts.CondvarWait f)
-unfolding lock_deed code_of
-waits_poll (locks.MxPoll g w) f = refl
-waits_poll (locks.RwPoll g w) f = refl
-waits_poll (locks.CvPoll g w) f = refl
-waits_poll _ f = refl
+-- ---- channels and boxes
+-- what an event of channels polls; a box is never polled
+abbrev chan_polls : chan_meaning.Meaning → Polling
+chan_polls (OfChannels Unbounded a) = record { sort = sorts.Receive; waker = λ f. mailboxes.polled_in a f }
+chan_polls (OfChannels Oneshots a) = record { sort = sorts.OneshotReceive; waker = λ f. mailboxes.polled_in a f }
+chan_polls (OfBounded a) = record { sort = sorts.BoundedReceive; waker = λ f. bounded_polled a f }
+chan_polls (OfBroadcasts a) = record { sort = sorts.Hear; waker = λ f. broadcast_polled a f }
+chan_polls (OfBoxes k a) = record { sort = sorts.AtomicBox; waker = λ f. None }
 
-receivers_poll : (e : ChanEvent) (f : ℕ) → chan.polled e (chan.Receives (ReceiverOf Unbounded) f) ≡ polled_by (deed_of (Chan e)) (thing_of sorts.Receive f)
-unfolding chan_deed code_of
-receivers_poll (chans.MbPoll g w) f = refl
-receivers_poll (chans.MbRecv g w) f = refl
-receivers_poll (chans.MuRecv g w) f = refl
-receivers_poll (chans.BcPoll g w) f = refl
-receivers_poll (chans.OsPoll g w) f = refl
-receivers_poll _ f = refl
+chans_by : (m : chan_meaning.Meaning) (x : chan.Future) → chan.polled_by m x ≡ waker_for (chan_polls m) (chan_thing x)
+unfolding code_of
+chans_by (OfChannels Unbounded a) (chan.Receives (ReceiverOf Unbounded) f) = refl
+chans_by (OfChannels Oneshots a) (chan.Receives (ReceiverOf Unbounded) f) = refl
+chans_by (OfBounded a) (chan.Receives (ReceiverOf Unbounded) f) = refl
+chans_by (OfBroadcasts a) (chan.Receives (ReceiverOf Unbounded) f) = refl
+chans_by (OfBoxes k a) (chan.Receives (ReceiverOf Unbounded) f) = refl
+chans_by _ _ = refl
 
-oneshots_poll : (e : ChanEvent) (f : ℕ) → chan.polled e (chan.Receives (ReceiverOf Oneshots) f) ≡ polled_by (deed_of (Chan e)) (thing_of sorts.OneshotReceive f)
-unfolding chan_deed code_of
-oneshots_poll (chans.MbPoll g w) f = refl
-oneshots_poll (chans.MbRecv g w) f = refl
-oneshots_poll (chans.MuRecv g w) f = refl
-oneshots_poll (chans.BcPoll g w) f = refl
-oneshots_poll (chans.OsPoll g w) f = refl
-oneshots_poll _ f = refl
+-- a send, which a deed polls too, is no future of the family
+no_send : (x : chan.Future) → (code_of sorts.Send == code_of (chan_thing x).sort) ≡ false
+unfolding code_of
+no_send (chan.Receives (ReceiverOf Unbounded) f) = refl
+no_send _ = refl
 
-bounded_poll : (e : ChanEvent) (f : ℕ) → chan.polled e (chan.Receives ReceiverOfBounded f) ≡ polled_by (deed_of (Chan e)) (thing_of sorts.BoundedReceive f)
-unfolding chan_deed code_of
-bounded_poll (chans.MbPoll g w) f = refl
-bounded_poll (chans.MbRecv g w) f = refl
-bounded_poll (chans.MuRecv g w) f = refl
-bounded_poll (chans.BcPoll g w) f = refl
-bounded_poll (chans.OsPoll g w) f = refl
-bounded_poll _ f = refl
+chans_deed : (e : ChanEvent) (x : Thing) → (code_of sorts.Send == code_of x.sort) ≡ false → waker_for (chan_polls (chan_meaning.meaning_of e)) x ≡ polled_by (chan_deed e) x
+unfolding chan_deed
+chans_deed (chans.MbPoll g w) x other = never (code_of sorts.BoundedReceive == code_of x.sort) ∙ sym (ap (λ b. if b && (g == x.name) then Some w else None) other)
+chans_deed (chans.MbRecv g w) x other = polls (code_of sorts.BoundedReceive == code_of x.sort) (g == x.name) w
+chans_deed (chans.MuRecv g w) x other = polls (code_of sorts.Receive == code_of x.sort) (g == x.name) w
+chans_deed (chans.BcPoll g w) x other = polls (code_of sorts.Hear == code_of x.sort) (g == x.name) w
+chans_deed (chans.OsPoll g w) x other = polls (code_of sorts.OneshotReceive == code_of x.sort) (g == x.name) w
+chans_deed e x other = never (code_of (chan_polls (chan_meaning.meaning_of e)).sort == code_of x.sort)
 
-hearings_poll : (e : ChanEvent) (f : ℕ) → chan.polled e (chan.Hears f) ≡ polled_by (deed_of (Chan e)) (thing_of sorts.Hear f)
-unfolding chan_deed code_of
-hearings_poll (chans.MbPoll g w) f = refl
-hearings_poll (chans.MbRecv g w) f = refl
-hearings_poll (chans.MuRecv g w) f = refl
-hearings_poll (chans.BcPoll g w) f = refl
-hearings_poll (chans.OsPoll g w) f = refl
-hearings_poll _ f = refl
-
+-- ---- fair admission
 shares_poll : (e : ShareEvent) (f : ℕ) → share.polled e f ≡ polled_by (deed_of (Share e)) (thing_of sorts.Admit f)
 unfolding share_deed code_of
 shares_poll (shares.FsPoll g w) f = refl
 shares_poll _ f = refl
 
-calls_poll : (e : OnceEvent) (f : ℕ) → once.polled e (once.AtCell Onces f) ≡ polled_by (deed_of (Once e)) (thing_of sorts.CallWait f)
-unfolding once_deed code_of
-calls_poll (onces.OnPoll g w) f = refl
-calls_poll (onces.OcPoll g w) f = refl
-calls_poll (onces.OmPoll g w) f = refl
-calls_poll (onces.SfPoll g w) f = refl
-calls_poll _ f = refl
+-- ---- once types
+-- what an event of cells polls
+abbrev cell_polls : once_kinds.Kind → cells.Action → Polling
+cell_polls Onces a = record { sort = sorts.CallWait; waker = λ f. cells.polled_in a f }
+cell_polls OnceCells a = record { sort = sorts.CellWait; waker = λ f. cells.polled_in a f }
 
-cells_poll : (e : OnceEvent) (f : ℕ) → once.polled e (once.AtCell OnceCells f) ≡ polled_by (deed_of (Once e)) (thing_of sorts.CellWait f)
-unfolding once_deed code_of
-cells_poll (onces.OnPoll g w) f = refl
-cells_poll (onces.OcPoll g w) f = refl
-cells_poll (onces.OmPoll g w) f = refl
-cells_poll (onces.SfPoll g w) f = refl
-cells_poll _ f = refl
+-- and one of maps or groups
+abbrev table_polls : once_kinds.TableKind → KeyAction → Polling
+table_polls Maps a = record { sort = sorts.MapWait; waker = λ f. key_polled a f }
+table_polls Groups a = record { sort = sorts.FlightWait; waker = λ f. key_polled a f }
 
-maps_poll : (e : OnceEvent) (f : ℕ) → once.polled e (once.ByKey Maps f) ≡ polled_by (deed_of (Once e)) (thing_of sorts.MapWait f)
-unfolding once_deed code_of
-maps_poll (onces.OnPoll g w) f = refl
-maps_poll (onces.OcPoll g w) f = refl
-maps_poll (onces.OmPoll g w) f = refl
-maps_poll (onces.SfPoll g w) f = refl
-maps_poll _ f = refl
+-- and one of either
+abbrev once_polls : once_meaning.Meaning → Polling
+once_polls (OfCells d) = cell_polls d.kind d.action
+once_polls (OfTables d) = table_polls d.kind d.action
 
-flights_poll : (e : OnceEvent) (f : ℕ) → once.polled e (once.ByKey Groups f) ≡ polled_by (deed_of (Once e)) (thing_of sorts.FlightWait f)
-unfolding once_deed code_of
-flights_poll (onces.OnPoll g w) f = refl
-flights_poll (onces.OcPoll g w) f = refl
-flights_poll (onces.OmPoll g w) f = refl
-flights_poll (onces.SfPoll g w) f = refl
-flights_poll _ f = refl
+cells_by : (k : once_kinds.Kind) (a : cells.Action) (x : once.Future) → once.polled_by (OfCells (record { kind = k; action = a })) x ≡ waker_for (cell_polls k a) (once_thing x)
+unfolding code_of
+cells_by Onces a (once.AtCell Onces f) = refl
+cells_by Onces a (once.ByKey Maps f) = refl
+cells_by OnceCells a (once.AtCell Onces f) = refl
+cells_by OnceCells a (once.ByKey Maps f) = refl
+cells_by _ a _ = refl
 
-meets_poll_as : (e : MeetEvent) (s : meet.Sort) (f : ℕ) → meet.polled e (record { sort = s; name = f }) ≡ polled_by (deed_of (Meet e)) (meet_thing_as s f)
-meets_poll_as e meet.AtBarrier f = arrivals_poll e f
-meets_poll_as e (meet.Of Latches) f = latches_poll e f
-meets_poll_as e (meet.Of kinds.Groups) f = groups_poll e f
-meets_poll_as e (meet.Of Shutdowns) f = signals_poll e f
+tables_by : (k : once_kinds.TableKind) (a : KeyAction) (x : once.Future) → once.polled_by (OfTables (record { kind = k; action = a })) x ≡ waker_for (table_polls k a) (once_thing x)
+unfolding code_of
+tables_by Maps a (once.AtCell Onces f) = refl
+tables_by Maps a (once.ByKey Maps f) = refl
+tables_by Groups a (once.AtCell Onces f) = refl
+tables_by Groups a (once.ByKey Maps f) = refl
+tables_by _ a _ = refl
 
-meets_poll : (e : MeetEvent) (f : meet.Future) → meet.polled e f ≡ polled_by (deed_of (Meet e)) (meet_thing_as f.sort f.name)
-meets_poll e f = meets_poll_as e f.sort f.name
+onces_by : (m : once_meaning.Meaning) (x : once.Future) → once.polled_by m x ≡ waker_for (once_polls m) (once_thing x)
+onces_by (OfCells d) x = cells_by d.kind d.action x
+onces_by (OfTables d) x = tables_by d.kind d.action x
 
-locks_poll_as : (e : LockEvent) (s : lock.Sort) (f : ℕ) → lock.polled_by (meaning_of e) s f ≡ polled_by (deed_of (Lock e)) (lock_thing_as s f)
-locks_poll_as e (lock.Of Mutexes) f = mutexes_poll e f
-locks_poll_as e (lock.Of RwLocks) f = accesses_poll e f
-locks_poll_as e lock.Waits f = waits_poll e f
-
-chans_poll : (e : ChanEvent) (f : chan.Future) → chan.polled e f ≡ polled_by (deed_of (Chan e)) (chan_thing f)
-chans_poll e (chan.Receives (ReceiverOf Unbounded) f) = receivers_poll e f
-chans_poll e (chan.Receives (ReceiverOf Oneshots) f) = oneshots_poll e f
-chans_poll e (chan.Receives ReceiverOfBounded f) = bounded_poll e f
-chans_poll e (chan.Hears f) = hearings_poll e f
-
-onces_poll : (e : OnceEvent) (f : once.Future) → once.polled e f ≡ polled_by (deed_of (Once e)) (once_thing f)
-onces_poll e (once.AtCell Onces f) = calls_poll e f
-onces_poll e (once.AtCell OnceCells f) = cells_poll e f
-onces_poll e (once.ByKey Maps f) = maps_poll e f
-onces_poll e (once.ByKey Groups f) = flights_poll e f
+onces_deed : (e : OnceEvent) (x : Thing) → waker_for (once_polls (once_meaning.meaning_of e)) x ≡ polled_by (once_deed e) x
+unfolding once_deed
+onces_deed (onces.OnPoll g w) x = polls (code_of sorts.CallWait == code_of x.sort) (g == x.name) w
+onces_deed (onces.OcPoll g w) x = polls (code_of sorts.CellWait == code_of x.sort) (g == x.name) w
+onces_deed (onces.OmPoll g w) x = polls (code_of sorts.MapWait == code_of x.sort) (g == x.name) w
+onces_deed (onces.SfPoll g w) x = polls (code_of sorts.FlightWait == code_of x.sort) (g == x.name) w
+onces_deed e x = never (code_of (once_polls (once_meaning.meaning_of e)).sort == code_of x.sort)
 
 pub polls_alike : PollsAlike
 polls_alike = record {
   semaphores = semaphores_poll;
-  meets = meets_poll;
-  locks = λ e f. locks_poll_as e f.sort f.name;
-  chans = chans_poll;
+  meets = λ e f. meets_by (meet_meaning.meaning_of e) f.sort f.name ∙ meets_deed e (meet_thing_as f.sort f.name);
+  locks = λ e f. locks_by (lock_meaning.meaning_of e) f.sort f.name ∙ locks_deed e (lock_thing_as f.sort f.name);
+  chans = λ e f. chans_by (chan_meaning.meaning_of e) f ∙ chans_deed e (chan_thing f) (no_send f);
   shares = shares_poll;
-  onces = onces_poll;
+  onces = λ e f. onces_by (once_meaning.meaning_of e) f ∙ onces_deed e (once_thing f);
 }
