@@ -187,15 +187,18 @@ type Map = MapCore<u64, u64, Collides, u64>;
 
 type Flight = FlightCore<u64, u64, Collides, u64>;
 
+// The place of the first call of what computes that tells something else.
+fn differs<C: Computing>(alloc: Global, script: Script) -> Option<usize> {
+    let room: Room<C> = Room::new(alloc);
+    differs_at(room, script)
+}
+
 // The same comes of it at a cell, under a key of a map, and under a key of a group.
 #[test]
 fn careless_table(rt: HostRuntime) {
     for script in ROWS {
-        let cell: Room<Cell> = Room::new(rt.alloc());
-        assert_eq!(rt; differs_at(cell, script), None);
-        let map: Room<Map> = Room::new(rt.alloc());
-        assert_eq!(rt; differs_at(map, script), None);
-        let flight: Room<Flight> = Room::new(rt.alloc());
-        assert_eq!(rt; differs_at(flight, script), None);
+        assert_eq!(rt; differs::<Cell>(rt.alloc(), script), None);
+        assert_eq!(rt; differs::<Map>(rt.alloc(), script), None);
+        assert_eq!(rt; differs::<Flight>(rt.alloc(), script), None);
     }
 }

@@ -195,10 +195,15 @@ const SCRIPTS: &[&[(Call, Reply)]] = &[
     ],
 ];
 
+// The place of the first call that tells something else.
+fn differs(alloc: Global, script: &[(Call, Reply)]) -> Option<usize> {
+    differs_at(Room::new(alloc), script)
+}
+
 #[test]
 fn calls_of_a_cell(rt: HostRuntime) {
     for script in SCRIPTS {
-        assert_eq!(rt; differs_at(Room::new(rt.alloc()), script), None);
+        assert_eq!(rt; differs(rt.alloc(), script), None);
     }
 }
 

@@ -76,10 +76,17 @@ const GROUP: &[(Call, Reply)] = &[
     (Call::Add, No),
 ];
 
+const FULL: &[(Call, Reply)] = &[(Call::Add, Nothing)];
+
+fn differs(group: Group, script: &[(Call, Reply)]) -> Option<usize> {
+    differs_at(Room::new(group), script)
+}
+
 #[test]
 fn group(rt: HostRuntime) {
-    let room = Room::new(GroupCore::new(rt.alloc()));
-    assert_eq!(rt; differs_at(room, GROUP), None);
-    let full = Room::new(GroupCore::at_count(rt.alloc(), u32::MAX));
-    assert_eq!(rt; differs_at(full, &[(Call::Add, Nothing)]), None);
+    assert_eq!(rt; differs(GroupCore::new(rt.alloc()), GROUP), None);
+    assert_eq!(rt;
+        differs(GroupCore::at_count(rt.alloc(), u32::MAX), FULL),
+        None
+    );
 }

@@ -86,11 +86,12 @@ const LATCH: &[(Call, Reply)] = &[
     (Call::End, Done),
 ];
 
+fn differs(latch: LatchCore<u64>) -> Option<usize> {
+    let wait = LatchWait::new();
+    differs_at(Room { latch, wait }, LATCH)
+}
+
 #[test]
 fn latch(rt: HostRuntime) {
-    let room = Room {
-        latch: LatchCore::new(rt.alloc(), 10),
-        wait: LatchWait::new(),
-    };
-    assert_eq!(rt; differs_at(room, LATCH), None);
+    assert_eq!(rt; differs(LatchCore::new(rt.alloc(), 10)), None);
 }

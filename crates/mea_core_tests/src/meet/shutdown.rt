@@ -81,8 +81,11 @@ const SHUTDOWN: &[(Call, Reply)] = &[
     (Call::Wake, Nothing),
 ];
 
+fn differs(shutdown: ShutdownCore<u64>) -> Option<usize> {
+    differs_at(Room { shutdown }, SHUTDOWN)
+}
+
 #[test]
 fn shutdown(rt: HostRuntime) {
-    let shutdown = ShutdownCore::new(rt.alloc());
-    assert_eq!(rt; differs_at(Room { shutdown }, SHUTDOWN), None);
+    assert_eq!(rt; differs(ShutdownCore::new(rt.alloc())), None);
 }
