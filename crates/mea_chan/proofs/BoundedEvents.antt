@@ -59,13 +59,6 @@ use Rattle.mea_cores_by_name.proofs.Waiters.{length-names}
 pub none_room : (n : ℕ) → n ≡ 0 → (if n == 0 then Some stops.Zero else None) ≡ Some stops.Zero
 none_room n zero = ap (λ b. if b then Some stops.Zero else None) (eq-eqb n 0 zero)
 
-pub some_room : (n : ℕ) → (n ≡ 0 → ⊥) → (if n == 0 then Some stops.Zero else None) ≡ None
-some_room n some = at (n == 0) refl
-  where
-    at : (b : Bool) → (n == 0) ≡ b → (if b then Some stops.Zero else None) ≡ None
-    at true zero = absurd (some (eqb-true n 0 zero))
-    at false more = refl
-
 abbrev pub part_of : Names NamedChannel → Names SenderEntry → Names ReceiverEntry → Names KeptSend → ℕ → Part Bounded
 part_of cs ss rs xs next = record { hall = bounded_seen cs ss rs xs; next = next }
 

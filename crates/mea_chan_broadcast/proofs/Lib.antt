@@ -1,4 +1,3 @@
-pub mod Acting
 pub mod Events
 pub mod Linking
 pub mod Seeing

@@ -79,6 +79,14 @@ const SCRIPTS: &[&[(Call, Reply)]] = &[
         (Call::Send(3), Closed(3)),
         (Call::TryRecv, Disconnected),
     ],
+    // The waker of the last poll is woken, and that alone.
+    &[
+        (Call::PollRecv(4), Pending),
+        (Call::PollRecv(5), Pending),
+        (Call::Send(1), Done),
+        (Call::Wake, Value(5)),
+        (Call::Wake, Nothing),
+    ],
     // The last sender's end wakes the receiver, who then learns that nothing comes any more.
     &[
         (Call::AddSender, Yes),

@@ -1,10 +1,6 @@
 -- what is said of the locks of one kind, and of all with condition variables
-use Rattle.std.proofs.Common.{◌≡◌, ℕ, ◌+◌, ◌++◌, ◌==◌, ◌&&◌, Bool, true, false, inl, inr, length, Option, Some, None, refl, ap, sym, subst, ◌∙◌, arith, if◌then◌else◌}
-use Rattle.std.proofs.lemmas.Bool.Decides.{nat_tests}
-use Rattle.mea_family.specs.Causes.{borrowed_by}
+use Rattle.std.proofs.Common.{◌≡◌, ℕ, ◌+◌, ◌++◌, ◌&&◌, Bool, true, false, length, refl, ap, sym, subst, ◌∙◌, arith}
 use Rattle.mea_family.specs.declared.answer.Answer.{Answer}
-use Rattle.mea_family.specs.declared.stop.Stop.{Stop}
-use Rattle.mea_family.specs.declared.stop.Stop.TheVariants as stops
 use Rattle.mea_family.specs.Family.{Outcome}
 use Rattle.mea_base.specs.Ready.{Waking}
 use Rattle.mea_family.specs.Play.{Part, PartYields}
@@ -17,31 +13,12 @@ use Rattle.mea_lock_model.specs.Condvars.{Condvars}
 use Rattle.mea_lock_model.specs.Actions.{Action}
 use Rattle.mea_lock_model.specs.LockHall.{LockHall, Mutexes, RwLocks, empty_hall, registered as all_registered}
 use Rattle.mea_lock_model.specs.Meaning.{Meaning, OnLocks, OnCondvars, meaning_of, step, step_by}
-use Rattle.mea_lock_model.proofs.Acting.{not_borrowed}
-use Rattle.mea_family.specs.Acts.{Refuses}
 use Rattle.mea_lock.specs.Halls.{hall_of, AreBelow, PlaysOne, PlaysBy}
 
--- ---- what is refused
--- a name that is not known
-pub unknown : (cause : Option Stop) (free : Type 0) → cause ≡ Some stops.Unknown → Refuses cause free stops.Unknown
-unknown cause free is = inl (is, λ no. absurd (cc))
-
--- what has no cause, for want of memory
-pub lacking : (cause : Option Stop) (free : Type 0) → cause ≡ None → (free → ⊥) → Refuses cause free stops.NoMemory
-lacking cause free none takes = inr (none, refl, takes)
-
--- what nothing borrows is known
-pub borrowed_none : (known : Bool) (n : ℕ) → borrowed_by known n ≡ None → (known ≡ true) × (n ≡ 0)
-borrowed_none true n is = (refl, not_borrowed true n is)
-borrowed_none false n is = absurd (cc)
-
+-- both halves of a conjunction hold
 pub both_true : (a b : Bool) → (a && b) ≡ true → (a ≡ true) × (b ≡ true)
 both_true true b is = (refl, is)
 both_true false b is = absurd (cc)
-
--- a lock of some permits is made
-pub makes : (most : ℕ) → (most ≡ 0 → ⊥) → (if most == 0 then Some stops.Zero else None) ≡ None
-makes most some = grind (arith, nat_tests)
 
 -- ---- what an event leaves
 pub none_registered : all_registered empty_hall ≡ 0

@@ -2,9 +2,8 @@
 use Rattle.std.proofs.Common.{◌≡◌, ℕ, ◌-◌, ◌≤◌, ◌==◌, Bool, true, false, cond, List, [], Option, Some, None, nat_lt, refl, ap, sym, ◌∙◌, arith}
 use Rattle.std.specs.Option.{IsSome}
 use Rattle.std.proofs.lemmas.Bool.{eqb-true, eq-eqb}
-use Rattle.std.proofs.lemmas.Bool.Decides.{nat_tests}
 use Rattle.std.specs.FinMap.{get, insert, remove}
-use Rattle.mea_family.specs.Causes.{borrowed_by}
+use Rattle.mea_family.proofs.Refusals.{not_borrowed}
 use Rattle.mea_family.specs.declared.answer.Answer.TheVariants as answers
 use Rattle.mea_family.specs.Family.{Outcome, quietly}
 use Rattle.mea_base.proofs.Maps.{inside, is_there, get-there, get-gone, get-removed_other}
@@ -25,10 +24,6 @@ use Rattle.mea_lock_model.specs.Actions.{Action, Make, Begin, Poll, Try, Get, Se
 named_there : (o : Option Lock) → is_named_lock o ≡ true → IsSome o
 named_there None is = absurd (cc)
 named_there (Some r) is = refl
-
-pub not_borrowed : (known : Bool) (n : ℕ) → borrowed_by known n ≡ None → n ≡ 0
-not_borrowed true n is = grind (arith, nat_tests)
-not_borrowed false n is = absurd (cc)
 
 abbrev pub owner : LockFuture → ℕ
 owner x = x.lock

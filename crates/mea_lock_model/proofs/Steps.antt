@@ -18,7 +18,8 @@ use Rattle.mea_lock_model.specs.Actions.{Action, Hand, PollUntil, EndWait, is_of
 use Rattle.mea_lock_model.specs.CondActions.{CondAction, Make, Wait, Poll, One, All, End, Drop, cause_on, act_on, on_condvars, on_both, told_by, poll_wait, polled_on, ends_on}
 use Rattle.mea_lock_model.specs.LockHall.{LockHall, Mutexes, RwLocks}
 use Rattle.mea_lock_model.specs.Meaning.{Meaning, OnLocks, OnCondvars, cause_by, step_by}
-use Rattle.mea_lock_model.proofs.Acting.{not_borrowed, goes}
+use Rattle.mea_lock_model.proofs.Acting.{goes}
+use Rattle.mea_family.proofs.Refusals.{not_borrowed}
 use Rattle.mea_lock_model.proofs.CondActing as acting
 use Rattle.mea_lock_model.proofs.CondActing.{put_stands, stands_notified, stands_ended, stands_dropped}
 use Rattle.mea_lock_model.proofs.Changes.{Low, LocksGo, locks_rest, locks_go, locks_among, CondLow, CondvarsGo, condvars_rest, condvars_go, condvars_among}

@@ -1,10 +1,8 @@
 -- what is said of the meeting points of one kind, and of all
-use Rattle.std.proofs.Common.{◌≡◌, ℕ, ◌+◌, ◌≤◌, Bool, true, false, Option, Some, None, inl, inr, refl, ap, subst, arith}
+use Rattle.std.proofs.Common.{◌≡◌, ℕ, ◌+◌, ◌≤◌, Bool, true, false, Some, None, refl, ap, subst, arith}
 use Rattle.std.specs.FinMap.{get}
 use Rattle.mea_family.specs.Causes.{borrowed_by}
 use Rattle.mea_family.specs.declared.answer.Answer.{Answer}
-use Rattle.mea_family.specs.declared.stop.Stop.{Stop}
-use Rattle.mea_family.specs.declared.stop.Stop.TheVariants as stops
 use Rattle.mea_base.specs.Ready.{Waking}
 use Rattle.mea_family.specs.Play.{Part, PartYields}
 use Rattle.mea_events.specs.declared.meet_event.MeetEvent.{MeetEvent}
@@ -13,23 +11,9 @@ use Rattle.mea_meet_model.specs.Counts.{Counts, Wait, is_holder, borrowers_of, b
 use Rattle.mea_meet_model.specs.Hall.{Latches, Groups, Shutdowns, registered as all_registered}
 use Rattle.mea_meet_model.specs.Meaning.{Meaning, OnBarriers, OnCounts, meaning_of}
 use Rattle.mea_meet_model.specs.Step.{step, step_by}
-use Rattle.mea_meet_model.proofs.CountEvents.{not_borrowed, none_borrows}
-use Rattle.mea_family.specs.Acts.{Refuses}
+use Rattle.mea_meet_model.proofs.CountEvents.{none_borrows}
+use Rattle.mea_family.proofs.Refusals.{not_borrowed}
 use Rattle.mea_meet.specs.Halls.{hall_of, AreBelow, PlaysBy}
-
--- ---- what is refused
--- a name that is not known
-pub unknown : (cause : Option Stop) (free : Type 0) → cause ≡ Some stops.Unknown → Refuses cause free stops.Unknown
-unknown cause free is = inl (is, λ no. absurd (cc))
-
--- what has no cause, for want of memory
-pub lacking : (cause : Option Stop) (free : Type 0) → cause ≡ None → (free → ⊥) → Refuses cause free stops.NoMemory
-lacking cause free none takes = inr (none, refl, takes)
-
--- what nothing borrows is known
-pub borrowed_none : (known : Bool) (n : ℕ) → borrowed_by known n ≡ None → (known ≡ true) × (n ≡ 0)
-borrowed_none true n is = (refl, not_borrowed true n is)
-borrowed_none false n is = absurd (cc)
 
 -- a holder that may end is borrowed by none
 pub borrowed_by_none : (h : Counts) (k : ℕ) → borrowed_by (is_holder h k) (borrowers_of h k) ≡ None → (f : ℕ) (y : Wait) → get h.waits f ≡ Some y → borrows y.awaits k ≡ false

@@ -12,7 +12,7 @@ use Rattle.mea_by_name.proofs.OneObject.{Goes, Same, Put, Made, Gone, Kept, Begu
 use Rattle.mea_meet_model.specs.Barriers as barriers
 use Rattle.mea_meet_model.specs.Barriers.{Barriers, Barrier, BarrierWait, new_barrier, is_barrier, waits_of, queue_of, of_wait, leads, has_completed}
 use Rattle.mea_meet_model.specs.BarrierActions.{BarrierAction, Make, Begin, Poll, End, Drop, cause_at, act_at, polled_at, ends_at, registers_at}
-use Rattle.mea_meet_model.proofs.CountEvents.{not_borrowed}
+use Rattle.mea_family.proofs.Refusals.{not_borrowed}
 use Rattle.mea_family.proofs.Causes.{known}
 
 module _ (h : Barriers) (i : ℕ) (a : BarrierAction) where

@@ -17,7 +17,7 @@ use Rattle.mea_meet_model.specs.Barriers.{Barriers, Barrier, BarrierWait, no_bar
 use Rattle.mea_meet_model.specs.BarrierActions.{BarrierAction, Make, Begin, Poll, End, Drop, cause_at, act_at}
 use Rattle.mea_meet_model.specs.Valid.{IsBarrier, HasBarriers}
 use Rattle.mea_meet_model.proofs.CountsKept.{home_later, home_empty}
-use Rattle.mea_meet_model.proofs.CountEvents.{not_borrowed}
+use Rattle.mea_family.proofs.Refusals.{not_borrowed}
 use Rattle.mea_meet_model.proofs.Rounds.{same_round, the_round, has_begun}
 
 pub barriers_empty : HasBarriers no_barriers 0

@@ -2,9 +2,8 @@
 use Rattle.std.proofs.Common.{◌≡◌, ℕ, ◌+◌, ◌≤◌, ◌==◌, Bool, true, false, cond, Some, None, IsSome, is_some, if◌then◌else◌, refl, ap, sym, subst, ◌∙◌, arith}
 use Rattle.std.specs.FinMap.{get, insert, remove, empty}
 use Rattle.std.proofs.lemmas.Bool.{eqb-true, eqb-false}
-use Rattle.std.proofs.lemmas.Bool.Decides.{nat_tests}
 use Rattle.mea_base.proofs.Maps.{by_put, by_gone, inside, is_there, value_in, get-there, get-other, removed_there, total-has}
-use Rattle.mea_family.specs.Causes.{borrowed_by}
+use Rattle.mea_family.proofs.Refusals.{not_borrowed}
 use Rattle.mea_family.specs.Family.{Outcome, quietly}
 use Rattle.mea_family.specs.Play.{found}
 use Rattle.mea_family.specs.declared.answer.Answer.TheVariants as answers
@@ -28,10 +27,6 @@ MayAct h (Make new) = new.members ≡ cond new.counted 1 0
 MayAct h (Into k) = BorrowNothing h
 MayAct h (EndEither k) = BorrowNothing h
 MayAct h _ = Unit {0}
-
-pub not_borrowed : (known : Bool) (n : ℕ) → borrowed_by known n ≡ None → n ≡ 0
-not_borrowed true n is = grind (arith, nat_tests)
-not_borrowed false n is = absurd (cc)
 
 -- whom nobody counts as borrower, none borrows
 pub none_borrows : (h : Counts) (k : ℕ) → borrowers_of h k ≡ 0 → (f : ℕ) (y : Wait) → get h.waits f ≡ Some y → borrows y.awaits k ≡ true → ⊥

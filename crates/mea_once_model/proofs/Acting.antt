@@ -1,9 +1,8 @@
 -- what each action changes: one cell and one future at the most
 use Rattle.std.proofs.Common.{◌≡◌, ℕ, ◌≤◌, ◌==◌, ◌++◌, Bool, true, false, cond, [], ◌∷◌, Option, Some, None, option_to_list, refl, ap, sym, subst, ◌∙◌, arith, append-nil}
 use Rattle.std.proofs.lemmas.Bool.{eqb-true, eq-eqb}
-use Rattle.std.proofs.lemmas.Bool.Decides.{nat_tests}
 use Rattle.std.specs.FinMap.{get, insert, remove}
-use Rattle.mea_family.specs.Causes.{borrowed_by}
+use Rattle.mea_family.proofs.Refusals.{borrowed_none, not_borrowed}
 use Rattle.mea_family.specs.declared.answer.Answer.{Answer}
 use Rattle.mea_family.specs.declared.answer.Answer.TheVariants as answers
 use Rattle.mea_family.specs.Family.{Outcome, quietly}
@@ -23,15 +22,6 @@ use Rattle.mea_once_model.specs.declared.job.Job.TheVariants.{Calls, Computes, A
 use Rattle.mea_once_model.specs.Cells.{Cell, CellFuture, Cells, Step, waiting_at, new_cell, passed, woken_next, given_up, filled, init_of, is_cell, futures_of}
 use Rattle.mea_once_model.specs.Actions.{Action, Make, Begin, Poll, Settle, End, TellFull, Tell, Peek, Put as Write, Take, TakeOut, Drop, act_in, registers_in, polled_in, ends_in, cause_in, in_the_way}
 use Rattle.mea_once_model.proofs.Parts.{part_same, part_pushed, part_with, part_without, part_registering, part_settled, part_next, part_drained, behind, together}
-
--- ---- causes
-pub is_known : (known : Bool) (n : ℕ) → borrowed_by known n ≡ None → known ≡ true
-is_known true n is = refl
-is_known false n is = absurd (cc)
-
-pub not_borrowed : (known : Bool) (n : ℕ) → borrowed_by known n ≡ None → n ≡ 0
-not_borrowed true n is = grind (arith, nat_tests)
-not_borrowed false n is = absurd (cc)
 
 -- ---- what the laws on wakers look at of a future is its cell
 abbrev pub keys : Names CellFuture → Names ℕ
@@ -267,7 +257,7 @@ module _ (h : Cells) (i : ℕ) where
 
   pub goes : (a : Action) → GoesTo h i a (cond (registers_in a) 1 0) (act_in h i a)
   goes (Make v) = makes h i (Make v) (λ f is. absurd (cc)) v
-  goes (Begin o job) = begins h i (Begin o job) (λ f is. absurd (cc)) o job (λ allowed. is_known (is_cell h o) (in_the_way h o job) allowed)
+  goes (Begin o job) = begins h i (Begin o job) (λ f is. absurd (cc)) o job (λ allowed. (borrowed_none (is_cell h o) (in_the_way h o job) allowed).0)
   goes (Poll f w) = by_found (GoesTo h i (Poll f w) 1) (get h.futures f) h _ (still h i (Poll f w) (λ f is. absurd (cc)) 1)
       (λ x future. by_found (GoesTo h i (Poll f w) 1) (get h.cells x.cell) h _ (still h i (Poll f w) (λ f is. absurd (cc)) 1)
       (λ c there. steps h i (Poll f w) (λ f is. absurd (cc)) f w x c _ (ap (λ b. cond b (Some w) None) (eq-eqb f f refl)) future there (polls f w x c)))

@@ -17,7 +17,7 @@ use Rattle.mea_once_model.specs.Tables as tables
 use Rattle.mea_once_model.specs.Tables.{Table, KeyFuture, Tables, is_this, is_current, closed, left, left_by, at_round, caller, caller_after, others_of, without_key, new_table, futures_of, is_table}
 use Rattle.mea_once_model.specs.KeyActions.{KeyAction, MakeTable, BeginKey, PollKey, SettleKey, EndKey, TellKey, DiscardKey, RemoveKey, DropTable, key_act, key_cause, with_future}
 use Rattle.mea_once_model.specs.KeyValid.{IsValidTable, IsValidFuture, AreValid}
-use Rattle.mea_once_model.proofs.Acting.{not_borrowed}
+use Rattle.mea_family.proofs.Refusals.{not_borrowed}
 use Rattle.mea_once_model.proofs.TableActing.{by_rounds}
 use Rattle.mea_once_model.proofs.TableWakers.{LowTables, of_table, none_other}
 

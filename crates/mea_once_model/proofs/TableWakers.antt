@@ -20,7 +20,8 @@ use Rattle.mea_once_model.specs.Cells.{Cell, CellFuture, Step, waiting_at, new_c
 use Rattle.mea_once_model.specs.Tables as tables
 use Rattle.mea_once_model.specs.Tables.{Table, KeyFuture, Tables, is_this, is_current, closed, left, left_by, at_round, caller, caller_after, others_of, without_key, new_table, futures_of, is_table}
 use Rattle.mea_once_model.specs.KeyActions.{KeyAction, MakeTable, BeginKey, PollKey, SettleKey, EndKey, TellKey, DiscardKey, RemoveKey, DropTable, key_act, key_cause, key_polled, key_ends, with_future}
-use Rattle.mea_once_model.proofs.Acting.{Fine, polls, ends_local, settles_local, ends_gone, not_borrowed}
+use Rattle.mea_once_model.proofs.Acting.{Fine, polls, ends_local, settles_local, ends_gone}
+use Rattle.mea_family.proofs.Refusals.{not_borrowed}
 use Rattle.mea_once_model.proofs.TableActing.{by_rounds}
 
 -- ---- names stay below the next number: of maps and groups, of futures, and of rounds

@@ -30,6 +30,24 @@ const ROWS: &[Row] = &[
             cause: Stop::Unknown,
         },
     },
+    // The whole mutex is written and read, and goes with its value.
+    Row {
+        script: "mx.new 5/mx.put 0 6/mx.peek 0/mx.into 0/mx.put 0 7",
+        text: "made/done/value 6/value 6/stop 4 unknown",
+        status: Status::Stopped {
+            at: 4,
+            cause: Stop::Unknown,
+        },
+    },
+    // A lock that was dropped is gone.
+    Row {
+        script: "rw.new 1/rw.drop 0/rw.peek 0",
+        text: "made/done/stop 2 unknown",
+        status: Status::Stopped {
+            at: 2,
+            cause: Stop::Unknown,
+        },
+    },
     // An owned future of a dropped mutex takes the lock from an owned guard.
     Row {
         script: "mx.new 1/mx.tryo 0/mx.locko 0/mx.poll 2 5/mx.drop 0/mx.set 1 8/mx.end 1/mx.poll 2 6/mx.get 7/mx.end 7",

@@ -27,6 +27,15 @@ const ROWS: &[Row] = &[
         text: "made/no/done/yes/made/pending/done wake 7/ready/done 8",
         status: Status::Done,
     },
+    // The end of the last sender of a shutdown sets no signal.
+    Row {
+        script: "sd.new/sd.is 0/sd.poll 1 5/sd.ends 0/sd.now 0/sd.signal 0",
+        text: "made/made/pending/done/no/stop 5 unknown",
+        status: Status::Stopped {
+            at: 5,
+            cause: Stop::Unknown,
+        },
+    },
     // A handle that becomes a wait wakes who waits, where it was the last.
     Row {
         script: "wg.new/wg.clone 0/wg.into 1/wg.poll 2 5/wg.into 0/wg.poll 4 6/wg.poll 2 7",

@@ -162,6 +162,12 @@ const LINES: &[Row] = &[
         text: "bad 0",
         status: Status::BadLine { at: 0 },
     },
+    // No number, after a word that has a form without numbers.
+    Row {
+        script: "sd.new x",
+        text: "bad 0",
+        status: Status::BadLine { at: 0 },
+    },
     // An event line, with nothing of that name.
     Row {
         script: "tryo 0 1",

@@ -2,6 +2,7 @@ pub mod Commands
 pub mod Cuts
 pub mod Digits
 pub mod Firsts
+pub mod LastDigits
 pub mod Numerals
 pub mod Places
 pub mod Puts

@@ -10,9 +10,3 @@ kept_before old put mid new is kept =
     sym (take-take (length old) (length mid) new longer)
     ∙ ap (take (length old)) (kept ∙ is)
     ∙ take-append_seam old put
-
--- a word is what stands before the newline of its line
-pub before_newline : (line word : List ℕ) → line ≡ word ++ codes "\n" → take (length line - 1) line ≡ word
-before_newline line word is =
-    let size : length line - 1 ≡ length word = omega (arith, ap length is, length-append word (codes "\n")) in
-    (λ i. take (size i) (is i)) ∙ take-append_seam word (codes "\n")

@@ -1,5 +1,5 @@
 -- the text of a reply: a word and its numbers, its wakes, a newline
-use Rattle.std.specs.Prelude.{ℕ, ◌++◌, List, [], ◌∷◌, codes}
+use Rattle.std.specs.Prelude.{ℕ, ◌++◌, List, [], ◌∷◌, Option, Some, None, codes}
 use Rattle.mea_family.specs.declared.answer.Answer.{Answer}
 use Rattle.mea_family.specs.declared.answer.Answer.TheVariants.{Made, Held, Lacking, Yes, No, Ready, Pending, Leader, Done, Accepted, Full, Closed, Got, Empty, Gone, Free, Forgot, Permits, Count, Left, Value, Failure, Back, Kept, Key, Lagged, Account}
 use Rattle.mea_family.specs.declared.ledger.Ledger.{Ledger}
@@ -57,6 +57,18 @@ numbers_in (Key k) = k ∷ []
 numbers_in (Lagged k) = k ∷ []
 numbers_in (Account l) = account_numbers l
 numbers_in _ = []
+
+-- the one number among so many, or none
+abbrev pub only_in : List ℕ → Option ℕ
+only_in [] = None
+only_in (n ∷ []) = Some n
+only_in (n ∷ m ∷ ns) = None
+
+-- what a line has after its word, with the digit 0 in place of the one number
+abbrev pub end_of : List ℕ → List ℕ
+end_of [] = codes "\n"
+end_of (n ∷ []) = codes " 0\n"
+end_of (n ∷ m ∷ ns) = codes "\n"
 
 -- nothing where there is no wake
 abbrev pub wakes_text : List ℕ → List ℕ

@@ -1,6 +1,6 @@
-use Rattle.std.proofs.Common.{◌≡◌, ◌↔◌, ◌==◌, ◌∙◌, false, Result, Ok, Err, IsErr, OnOk, ℕ, inl, inr, refl, sym}
+use Rattle.std.proofs.Common.{◌≡◌, ◌↔◌, ◌==◌, ◌∙◌, false, Result, Ok, Err, IsErr, OnOk, ℕ, inr, refl, sym}
 use Rattle.std.proofs.lemmas.Bool.{eqb-false}
-use Rattle.mea_chan_broadcast.proofs.Acting.{as_told}
+use Rattle.mea_family.proofs.Refusals.{as_told}
 use Rattle.mea_chan.proofs.BoundedEvents.{site, copier_there, senders_channel, some_sender, not_crowded, copied}
 use Rattle.mea_chan.proofs.bounded_part.BoundedPart.copy.Goals as goal
 
@@ -10,7 +10,7 @@ added (Ok u) n overflow ok few = ok
 added (Err e) n overflow ok few = absurd (eqb-false n 18446744073709551615 few (overflow.0 refl))
 
 pub returns-in-Some : goal.returns-in-Some
-returns-in-Some c = (inl (as_told _ _ _ c.cause_of_copy.ensures.is c.cause_of_copy.ensures.tells c.in-Some.is), refl, refl)
+returns-in-Some c = (as_told _ _ _ _ c.cause_of_copy.ensures.is c.cause_of_copy.ensures.tells c.in-Some.is, refl, refl)
 
 pub at-requires : goal.at-requires
 at-requires c = copier_there (site c.self.inside.channels c.self.inside.senders c.self.inside.receivers c.self.inside.sends c.self.inside.next c.self.view_is c.self.invariant c.requires.next c.ranges.number.fits) c.args.s (sym c.cause_of_copy.ensures.is ∙ c.in_default.is)

@@ -1,11 +1,11 @@
-use Rattle.std.proofs.Common.{inl, refl, sym, ◌∙◌}
-use Rattle.mea_chan_broadcast.proofs.Acting.{as_told}
+use Rattle.std.proofs.Common.{refl, sym, ◌∙◌}
+use Rattle.mea_family.proofs.Refusals.{as_told}
 use Rattle.mea_chan.proofs.BoundedEvents.{site, ender_there, senders_channel, some_sender, its_quiet, its_room, over_there}
 use Rattle.mea_chan.proofs.BoundedEnds.{sender_ended}
 use Rattle.mea_chan.proofs.bounded_part.BoundedPart.end_sender.Goals as goal
 
 pub returns-in-Some : goal.returns-in-Some
-returns-in-Some c = (inl (as_told _ _ _ c.cause_of_end.ensures.is c.cause_of_end.ensures.tells c.in-Some.is), refl, refl)
+returns-in-Some c = (as_told _ _ _ _ c.cause_of_end.ensures.is c.cause_of_end.ensures.tells c.in-Some.is, refl, refl)
 
 pub remove-o-requires : goal.remove-o-requires
 remove-o-requires c = ender_there (site c.self.inside.channels c.self.inside.senders c.self.inside.receivers c.self.inside.sends c.self.inside.next c.self.view_is c.self.invariant c.requires.next c.ranges.number.fits) c.args.s (sym c.cause_of_end.ensures.is ∙ c.in_default.is)

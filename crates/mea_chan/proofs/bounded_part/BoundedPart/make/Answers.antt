@@ -1,5 +1,6 @@
 use Rattle.std.proofs.Common.{inl, inr, refl}
-use Rattle.mea_chan.proofs.BoundedEvents.{none_room, some_room}
+use Rattle.mea_chan.proofs.BoundedEvents.{none_room}
+use Rattle.mea_family.proofs.Refusals.{some_room}
 use Rattle.mea_chan.proofs.bounded_part.BoundedPart.make.Goals as goal
 
 pub returns-then-capacity-eq0 : goal.returns-then-capacity-eq0

@@ -1,6 +1,7 @@
 use Rattle.std.proofs.Common.{inr, refl, arith}
 use Rattle.mea_base.proofs.Maps.{get-there, is_there}
-use Rattle.mea_chan.proofs.BoundedEvents.{site, some_room}
+use Rattle.mea_chan.proofs.BoundedEvents.{site}
+use Rattle.mea_family.proofs.Refusals.{some_room}
 use Rattle.mea_chan.proofs.BoundedEnds.{unmade, all_unmade, made_room}
 use Rattle.mea_chan.proofs.bounded_part.BoundedPart.place.Goals as goal
 

@@ -1,10 +1,10 @@
-use Rattle.std.proofs.Common.{inl, inr, refl, sym, ◌∙◌}
-use Rattle.mea_chan_broadcast.proofs.Acting.{as_told}
+use Rattle.std.proofs.Common.{inr, refl, sym, ◌∙◌}
+use Rattle.mea_family.proofs.Refusals.{as_told}
 use Rattle.mea_chan.proofs.MailboxEvents.{site, copier_there, some_sender, not_crowded, copied}
 use Rattle.mea_chan.proofs.mailbox_part.MailboxPart.copy.Goals as goal
 
 pub returns-in-Some : goal.returns-in-Some
-returns-in-Some g c = (inl (as_told _ _ _ c.cause_of_copy.ensures.is c.cause_of_copy.ensures.tells c.in-Some.is), refl)
+returns-in-Some g c = (as_told _ _ _ _ c.cause_of_copy.ensures.is c.cause_of_copy.ensures.tells c.in-Some.is, refl)
 
 pub at-o-requires : goal.at-o-requires
 at-o-requires g c = copier_there (site c.self.inside.channels c.self.inside.senders c.self.inside.receivers c.self.inside.next c.self.view_is c.self.invariant c.requires.next c.ranges.number.fits) c.args.s (sym c.cause_of_copy.ensures.is ∙ c.in_default.is)

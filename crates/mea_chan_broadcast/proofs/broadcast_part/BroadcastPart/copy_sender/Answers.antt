@@ -1,10 +1,10 @@
-use Rattle.std.proofs.Common.{inl, inr, refl, sym, ◌∙◌}
-use Rattle.mea_chan_broadcast.proofs.Acting.{as_told}
+use Rattle.std.proofs.Common.{inr, refl, sym, ◌∙◌}
+use Rattle.mea_family.proofs.Refusals.{as_told}
 use Rattle.mea_chan_broadcast.proofs.Events.{site, copier_there, senders_channel, some_sender, was_added, copied}
 use Rattle.mea_chan_broadcast.proofs.broadcast_part.BroadcastPart.copy_sender.Goals as goal
 
 pub returns-in-Some : goal.returns-in-Some
-returns-in-Some c = (inl (as_told _ _ _ c.cause_of_copy.ensures.is c.cause_of_copy.ensures.tells c.in-Some.is), refl)
+returns-in-Some c = (as_told _ _ _ _ c.cause_of_copy.ensures.is c.cause_of_copy.ensures.tells c.in-Some.is, refl)
 
 pub at-o-requires : goal.at-o-requires
 at-o-requires c = copier_there (site c.self.inside.channels c.self.inside.senders c.self.inside.receivers c.self.inside.futures c.self.inside.next c.self.view_is c.self.invariant c.requires.next) c.args.s (sym c.cause_of_copy.ensures.is ∙ c.in_default.is)

@@ -1,10 +1,10 @@
-use Rattle.std.proofs.Common.{inl, refl, sym, ◌∙◌}
-use Rattle.mea_chan_broadcast.proofs.Acting.{as_told}
+use Rattle.std.proofs.Common.{refl, sym, ◌∙◌}
+use Rattle.mea_family.proofs.Refusals.{as_told}
 use Rattle.mea_chan_broadcast.proofs.Events.{site, receiver_there, receivers_channel, some_receiver, over_there, receiver_ended}
 use Rattle.mea_chan_broadcast.proofs.broadcast_part.BroadcastPart.end_receiver.Goals as goal
 
 pub returns-in-Some : goal.returns-in-Some
-returns-in-Some c = (inl (as_told _ _ _ c.cause_of_use.ensures.is c.cause_of_use.ensures.tells c.in-Some.is), refl)
+returns-in-Some c = (as_told _ _ _ _ c.cause_of_use.ensures.is c.cause_of_use.ensures.tells c.in-Some.is, refl)
 
 pub remove-o-requires : goal.remove-o-requires
 remove-o-requires c = receiver_there (site c.self.inside.channels c.self.inside.senders c.self.inside.receivers c.self.inside.futures c.self.inside.next c.self.view_is c.self.invariant c.requires.next) c.args.r (sym c.cause_of_use.ensures.is ∙ c.in_default.is)

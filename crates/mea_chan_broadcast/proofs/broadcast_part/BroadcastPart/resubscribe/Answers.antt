@@ -1,13 +1,13 @@
-use Rattle.std.proofs.Common.{ℕ, inl, refl, ap, sym, ◌∙◌, arith}
+use Rattle.std.proofs.Common.{ℕ, refl, ap, sym, ◌∙◌, arith}
 use Rattle.mea_chan_model.specs.Broadcasts.{join}
 use Rattle.mea_chan_model.specs.BroadcastActions.{Resubscribe}
 use Rattle.mea_chan_broadcast.specs.BroadcastParts.{broadcast_seen}
-use Rattle.mea_chan_broadcast.proofs.Acting.{as_told}
+use Rattle.mea_family.proofs.Refusals.{as_told}
 use Rattle.mea_chan_broadcast.proofs.Events.{site, receiver_there, receivers_channel, resubscribes_as, its_channel_there, joined_as}
 use Rattle.mea_chan_broadcast.proofs.broadcast_part.BroadcastPart.resubscribe.Goals as goal
 
 pub returns-in-Some : goal.returns-in-Some
-returns-in-Some c = (inl (as_told _ _ _ c.cause_of_use.ensures.is c.cause_of_use.ensures.tells c.in-Some.is), refl)
+returns-in-Some c = (as_told _ _ _ _ c.cause_of_use.ensures.is c.cause_of_use.ensures.tells c.in-Some.is, refl)
 
 pub at-requires : goal.at-requires
 at-requires c = receiver_there (site c.self.inside.channels c.self.inside.senders c.self.inside.receivers c.self.inside.futures c.self.inside.next c.self.view_is c.self.invariant c.requires.next) c.args.r (sym c.cause_of_use.ensures.is ∙ c.in_default.is)

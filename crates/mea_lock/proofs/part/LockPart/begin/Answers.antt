@@ -1,7 +1,7 @@
 use Rattle.std.proofs.Common.{sym, ap, ◌∙◌}
 use Rattle.mea_family.specs.Causes.{unknown_unless}
 use Rattle.mea_lock.proofs.PartEvents.{site, lock_there, few_things, unchanged, begins}
-use Rattle.mea_lock.proofs.Playing.{lacking}
+use Rattle.mea_family.proofs.Refusals.{lacking}
 use Rattle.mea_lock.proofs.part.LockPart.begin.Goals as goal
 
 pub at_mut-entry-requires : goal.at_mut-entry-requires

@@ -1,7 +1,7 @@
 use Rattle.std.proofs.Common.{refl, sym, ap, ◌∙◌}
 use Rattle.mea_lock.specs.Entries.{is_over}
 use Rattle.mea_lock.proofs.PartEvents.{site, end_cause, untaken, its_kept, its_room, over_there, is_held, guard_few, guard_ended}
-use Rattle.mea_lock.proofs.Playing.{unknown}
+use Rattle.mea_family.proofs.Refusals.{unknown}
 use Rattle.mea_lock.proofs.part.LockPart.end_guard.Goals as goal
 
 pub invariant_of-self : goal.invariant_of-self

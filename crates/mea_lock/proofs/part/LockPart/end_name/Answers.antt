@@ -1,7 +1,7 @@
 use Rattle.std.proofs.Common.{sym, ap, ◌∙◌}
 use Rattle.mea_lock.specs.Entries.{is_over}
 use Rattle.mea_lock.proofs.PartEvents.{site, lock_there, over_there, dropped}
-use Rattle.mea_lock.proofs.Playing.{borrowed_none}
+use Rattle.mea_family.proofs.Refusals.{borrowed_none}
 use Rattle.mea_lock.proofs.part.LockPart.end_name.Goals as goal
 
 pub at_mut-entry-requires : goal.at_mut-entry-requires

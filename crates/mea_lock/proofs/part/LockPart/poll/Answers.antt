@@ -5,7 +5,7 @@ use Rattle.mea_base.proofs.Maps.{get-there, is_there}
 use Rattle.mea_family.specs.Causes.{unknown_unless}
 use Rattle.mea_lock.proofs.PartEvents.{site, poll_cause, looked, its_lock, its_room}
 use Rattle.mea_lock.proofs.FutureEvents.{waits_alone, future_may_poll, undone, pended, readied}
-use Rattle.mea_lock.proofs.Playing.{unknown, lacking}
+use Rattle.mea_family.proofs.Refusals.{unknown, lacking}
 use Rattle.mea_lock.proofs.part.LockPart.poll.Goals as goal
 
 pub returns-in_default : goal.returns-in_default

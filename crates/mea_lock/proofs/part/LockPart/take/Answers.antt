@@ -1,6 +1,6 @@
 use Rattle.std.proofs.Common.{sym, ◌∙◌}
 use Rattle.mea_lock.proofs.PartEvents.{site, lock_there, is_idle, taken}
-use Rattle.mea_lock.proofs.Playing.{borrowed_none}
+use Rattle.mea_family.proofs.Refusals.{borrowed_none}
 use Rattle.mea_lock.proofs.part.LockPart.take.Goals as goal
 
 pub remove-requires : goal.remove-requires

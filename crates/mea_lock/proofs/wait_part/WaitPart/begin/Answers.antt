@@ -3,7 +3,7 @@ use Rattle.mea_family.specs.Causes.{unknown_unless}
 use Rattle.mea_base.proofs.Maps.{get-there, is_there}
 use Rattle.mea_by_name.proofs.Own.{put_gone, gone_none}
 use Rattle.mea_lock.proofs.WaitEvents.{site, condvar_there, no_wait, begun}
-use Rattle.mea_lock.proofs.Playing.{lacking}
+use Rattle.mea_family.proofs.Refusals.{lacking}
 use Rattle.mea_lock.proofs.wait_part.WaitPart.begin.Goals as goal
 
 pub remove-requires : goal.remove-requires

@@ -1,6 +1,6 @@
 use Rattle.std.proofs.Common.{sym, ◌∙◌}
 use Rattle.mea_lock.proofs.WaitEvents.{site, condvar_there, dropped}
-use Rattle.mea_lock.proofs.Playing.{borrowed_none}
+use Rattle.mea_family.proofs.Refusals.{borrowed_none}
 use Rattle.mea_lock.proofs.wait_part.WaitPart.end_name.Goals as goal
 
 pub remove-requires : goal.remove-requires

@@ -5,7 +5,7 @@ use Rattle.mea_base.proofs.Maps.{get-there, is_there}
 use Rattle.mea_by_name.proofs.Own.{insert_same, put_gone}
 use Rattle.mea_lock_model.specs.Locks.{is_condvar_future}
 use Rattle.mea_lock.proofs.WaitEvents.{site, wait_is, some_waits, known_number, notified_number, waits_on, unchanged, refuted, place_waits, given_up, uncounted, lists, asks, ready}
-use Rattle.mea_lock.proofs.Playing.{unknown, lacking}
+use Rattle.mea_family.proofs.Refusals.{unknown, lacking}
 use Rattle.mea_lock.proofs.wait_part.WaitPart.poll.Goals as goal
 
 pub returns-in_default : goal.returns-in_default

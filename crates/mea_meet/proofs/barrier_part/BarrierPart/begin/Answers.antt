@@ -1,7 +1,7 @@
 use Rattle.std.proofs.Common.{sym, ap, ◌∙◌, arith}
 use Rattle.std.specs.Option.{option_copied_mut}
 use Rattle.mea_meet.proofs.BarrierSites.{site, barrier_unknown, barrier_known, unlent, few_waits, begun}
-use Rattle.mea_meet.proofs.Playing.{unknown, lacking}
+use Rattle.mea_family.proofs.Refusals.{unknown, lacking}
 use Rattle.mea_meet.proofs.barrier_part.BarrierPart.begin.Goals as goal
 
 pub returns-in_default : goal.returns-in_default

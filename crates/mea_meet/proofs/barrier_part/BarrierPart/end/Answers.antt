@@ -1,6 +1,6 @@
 use Rattle.std.proofs.Common.{refl, sym, ◌∙◌}
 use Rattle.mea_meet.proofs.BarrierSites.{site, wait_unknown, untaken, waits_barrier, some_waits, ended}
-use Rattle.mea_meet.proofs.Playing.{unknown}
+use Rattle.mea_family.proofs.Refusals.{unknown}
 use Rattle.mea_meet.proofs.barrier_part.BarrierPart.end.Goals as goal
 
 pub invariant_of-self : goal.invariant_of-self

@@ -1,6 +1,6 @@
 use Rattle.std.proofs.Common.{◌-◌, sym, ap, arith, ◌∙◌}
 use Rattle.mea_meet.proofs.BarrierSites.{site, barrier_there, its_room, dropped}
-use Rattle.mea_meet.proofs.Playing.{borrowed_none}
+use Rattle.mea_family.proofs.Refusals.{borrowed_none}
 use Rattle.mea_meet.proofs.barrier_part.BarrierPart.end_name.Goals as goal
 
 pub remove-entry-requires : goal.remove-entry-requires

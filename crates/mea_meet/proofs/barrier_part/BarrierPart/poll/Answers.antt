@@ -3,7 +3,7 @@ use Rattle.std.specs.Option.{option_copied_mut}
 use Rattle.mea_base.proofs.Maps.{get-there, is_there}
 use Rattle.mea_by_name.proofs.Own.{put_gone}
 use Rattle.mea_meet.proofs.BarrierSites.{site, wait_unknown, wait_known, waits_barrier, some_waits, its_quiet, its_few, its_room, opened, unpolled, pends, readies}
-use Rattle.mea_meet.proofs.Playing.{unknown, lacking}
+use Rattle.mea_family.proofs.Refusals.{unknown, lacking}
 use Rattle.mea_meet.proofs.barrier_part.BarrierPart.poll.Goals as goal
 
 pub returns-in_default : goal.returns-in_default

@@ -2,7 +2,7 @@ use Rattle.std.proofs.Common.{Some, None, inl, refl, sym, ap, ◌∙◌, if◌th
 use Rattle.mea_family.specs.declared.stop.Stop.TheVariants as stops
 use Rattle.mea_meet.proofs.CountSites.{site, point_there, its_few}
 use Rattle.mea_meet.proofs.CountCalls.{added, not_full, lives_here, full_at, unturned}
-use Rattle.mea_meet.proofs.Playing.{lacking}
+use Rattle.mea_family.proofs.Refusals.{lacking}
 use Rattle.mea_meet.proofs.count_part.CountPart.add.Goals as goal
 
 pub at_mut-entry-requires : goal.at_mut-entry-requires

@@ -3,7 +3,7 @@ use Rattle.std.specs.Option.{option_copied}
 use Rattle.mea_base.proofs.Maps.{is_there}
 use Rattle.mea_meet.proofs.CountSites.{site}
 use Rattle.mea_meet.proofs.CountCalls.{sender_unknown, sender_known, untold, awaited}
-use Rattle.mea_meet.proofs.Playing.{unknown, lacking}
+use Rattle.mea_family.proofs.Refusals.{unknown, lacking}
 use Rattle.mea_meet.proofs.count_part.CountPart.await_members.Goals as goal
 
 pub returns-in_default : goal.returns-in_default

@@ -3,7 +3,7 @@ use Rattle.std.specs.Option.{option_copied_mut}
 use Rattle.mea_meet_model.specs.Counts as model
 use Rattle.mea_meet.proofs.CountSites.{site, holders_point, its_few}
 use Rattle.mea_meet.proofs.CountCalls.{holder_unknown, holder_known, unlent, few_borrow, begun}
-use Rattle.mea_meet.proofs.Playing.{unknown, lacking}
+use Rattle.mea_family.proofs.Refusals.{unknown, lacking}
 use Rattle.mea_meet.proofs.count_part.CountPart.begin.Goals as goal
 
 pub returns-in_default : goal.returns-in_default

@@ -2,7 +2,7 @@ use Rattle.std.proofs.Common.{refl, sym, ap, ◌∙◌}
 use Rattle.std.specs.Option.{option_copied}
 use Rattle.mea_meet.proofs.CountSites.{site, waits_point, its_few}
 use Rattle.mea_meet.proofs.CountCalls.{wait_unknown, wait_known, copied_wait, untold}
-use Rattle.mea_meet.proofs.Playing.{unknown, lacking}
+use Rattle.mea_family.proofs.Refusals.{unknown, lacking}
 use Rattle.mea_meet.proofs.count_part.CountPart.copy.Goals as goal
 
 pub returns-in_default : goal.returns-in_default

@@ -1,5 +1,6 @@
 use Rattle.std.proofs.Common.{sym, ◌∙◌}
-use Rattle.mea_meet.proofs.Playing.{borrowed_none, borrowed_by_none}
+use Rattle.mea_meet.proofs.Playing.{borrowed_by_none}
+use Rattle.mea_family.proofs.Refusals.{borrowed_none}
 use Rattle.mea_meet.proofs.count_part.CountPart.end_holder.Goals as goal
 
 pub leave-requires-clause-there : goal.leave-requires-clause-there

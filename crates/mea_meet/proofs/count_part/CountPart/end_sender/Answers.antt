@@ -1,7 +1,7 @@
 use Rattle.std.proofs.Common.{refl, sym, ◌∙◌}
 use Rattle.mea_meet.proofs.CountSites.{site, senders_point, its_room, over_there}
 use Rattle.mea_meet.proofs.CountCalls.{sender_unknown, untaken_sender, sender_left, sender_some}
-use Rattle.mea_meet.proofs.Playing.{unknown}
+use Rattle.mea_family.proofs.Refusals.{unknown}
 use Rattle.mea_meet.proofs.count_part.CountPart.end_sender.Goals as goal
 
 pub invariant_of-self : goal.invariant_of-self

@@ -1,7 +1,7 @@
 use Rattle.std.proofs.Common.{refl, sym, ◌∙◌}
 use Rattle.mea_meet.proofs.CountSites.{site, waits_point, its_room, over_there}
 use Rattle.mea_meet.proofs.CountCalls.{wait_unknown, untaken_wait, wait_left, lender_some, wait_some}
-use Rattle.mea_meet.proofs.Playing.{unknown}
+use Rattle.mea_family.proofs.Refusals.{unknown}
 use Rattle.mea_meet.proofs.count_part.CountPart.end_wait.Goals as goal
 
 pub invariant_of-self : goal.invariant_of-self

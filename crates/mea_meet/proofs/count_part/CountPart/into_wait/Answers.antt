@@ -3,7 +3,7 @@ use Rattle.std.specs.Option.{option_copied}
 use Rattle.mea_base.proofs.Maps.{is_there}
 use Rattle.mea_meet.proofs.CountSites.{site, holders_point, its, its_room}
 use Rattle.mea_meet.proofs.CountCalls.{holder_unknown, holder_known, untold, gone_over, counted_lives}
-use Rattle.mea_meet.proofs.Playing.{unknown, lacking}
+use Rattle.mea_family.proofs.Refusals.{unknown, lacking}
 use Rattle.mea_meet.proofs.count_part.CountPart.into_wait.Goals as goal
 
 pub returns-in_default : goal.returns-in_default

@@ -2,7 +2,7 @@ use Rattle.std.proofs.Common.{refl, sym, ap, ◌∙◌}
 use Rattle.std.specs.Option.{option_copied}
 use Rattle.mea_meet.proofs.CountSites.{site}
 use Rattle.mea_meet.proofs.CountCalls.{no_join, join_point, join_lives, joined_by}
-use Rattle.mea_meet.proofs.Playing.{unknown}
+use Rattle.mea_family.proofs.Refusals.{unknown}
 use Rattle.mea_meet.proofs.count_part.CountPart.join.Goals as goal
 
 pub returns-in_default : goal.returns-in_default

@@ -4,7 +4,7 @@ use Rattle.mea_meet.specs.Actions.{new_seen}
 use Rattle.mea_meet.proofs.CountSites.{site}
 use Rattle.mea_meet.proofs.CountCalls.{untold}
 use Rattle.mea_meet.proofs.CountMade.{fair, made, put_there, no_holder_left, no_sender_left}
-use Rattle.mea_meet.proofs.Playing.{lacking}
+use Rattle.mea_family.proofs.Refusals.{lacking}
 use Rattle.mea_meet.proofs.count_part.CountPart.make.Goals as goal
 
 pub remove-requires : goal.remove-requires

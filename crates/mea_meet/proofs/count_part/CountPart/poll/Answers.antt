@@ -3,7 +3,7 @@ use Rattle.std.specs.Option.{option_copied_mut}
 use Rattle.mea_base.proofs.Maps.{get-there, is_there}
 use Rattle.mea_meet.proofs.CountSites.{site, waits_point, over_there}
 use Rattle.mea_meet.proofs.CountCalls.{wait_unknown, wait_known, poll_given, unpolled, waits_on, lender_some, ready_some, ready_room, ready_lent, readied}
-use Rattle.mea_meet.proofs.Playing.{unknown, lacking}
+use Rattle.mea_family.proofs.Refusals.{unknown, lacking}
 use Rattle.mea_meet.proofs.count_part.CountPart.poll.Goals as goal
 
 pub returns-in_default : goal.returns-in_default

@@ -2,7 +2,7 @@ use Rattle.std.proofs.Common.{refl, sym, ap, ◌∙◌}
 use Rattle.std.specs.Option.{option_copied}
 use Rattle.mea_meet.proofs.CountSites.{site, senders_point, its, its_room}
 use Rattle.mea_meet.proofs.CountCalls.{sender_unknown, sent_by}
-use Rattle.mea_meet.proofs.Playing.{unknown}
+use Rattle.mea_family.proofs.Refusals.{unknown}
 use Rattle.mea_meet.proofs.count_part.CountPart.send.Goals as goal
 
 pub returns-in_default : goal.returns-in_default

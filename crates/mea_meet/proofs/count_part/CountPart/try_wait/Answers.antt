@@ -3,7 +3,7 @@ use Rattle.std.specs.Option.{option_copied}
 use Rattle.mea_meet.specs.CountCores.{NamedPoint}
 use Rattle.mea_meet.proofs.CountSites.{site, holders_point}
 use Rattle.mea_meet.proofs.CountCalls.{holder_unknown, tried}
-use Rattle.mea_meet.proofs.Playing.{unknown}
+use Rattle.mea_family.proofs.Refusals.{unknown}
 use Rattle.mea_meet.proofs.count_part.CountPart.try_wait.Goals as goal
 
 pub returns-in_default : goal.returns-in_default

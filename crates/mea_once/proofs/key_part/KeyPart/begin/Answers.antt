@@ -2,7 +2,7 @@ use Rattle.std.proofs.Common.{ℕ, Some, None, refl, sym, ap, ◌∙◌}
 use Rattle.std.specs.Option.{option_copied_mut}
 use Rattle.mea_once_core.specs.declared.key_call.KeyCall.{KeyCall}
 use Rattle.mea_once.specs.declared.scripted.Scripted.{Scripted}
-use Rattle.mea_once.proofs.Causes.{unknown, lacking}
+use Rattle.mea_family.proofs.Refusals.{unknown, lacking}
 use Rattle.mea_once.proofs.TableEvents.{table_cause, site, few_futures, unchanged, begins_future}
 use Rattle.mea_once.proofs.key_part.KeyPart.begin.Goals as goal
 

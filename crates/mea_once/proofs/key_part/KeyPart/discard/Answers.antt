@@ -1,6 +1,6 @@
 use Rattle.std.proofs.Common.{Some, None, sym, ap, ◌∙◌}
 use Rattle.std.specs.Option.{option_copied_mut}
-use Rattle.mea_once.proofs.Causes.{unknown}
+use Rattle.mea_family.proofs.Refusals.{unknown}
 use Rattle.mea_once.proofs.TableEvents.{table_cause, site, gone_kept, discarded}
 use Rattle.mea_once.proofs.key_part.KeyPart.discard.Goals as goal
 

@@ -1,5 +1,5 @@
 use Rattle.std.proofs.Common.{Some, None, refl, sym, ◌∙◌}
-use Rattle.mea_once.proofs.Causes.{unknown}
+use Rattle.mea_family.proofs.Refusals.{unknown}
 use Rattle.mea_once.proofs.TableEvents.{future_cause, site, untaken, its_table, stands_there, its_room, ended}
 use Rattle.mea_once.proofs.key_part.KeyPart.end.Goals as goal
 

@@ -1,5 +1,5 @@
 use Rattle.std.proofs.Common.{refl, sym, ◌∙◌}
-use Rattle.mea_once.proofs.Causes.{as_told, borrowed_none}
+use Rattle.mea_family.proofs.Refusals.{as_told, borrowed_none}
 use Rattle.mea_once.proofs.TableEvents.{site, table_there, goes_kept, dropped}
 use Rattle.mea_once.proofs.key_part.KeyPart.end_table.Goals as goal
 

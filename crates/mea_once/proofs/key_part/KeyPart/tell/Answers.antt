@@ -1,6 +1,6 @@
 use Rattle.std.proofs.Common.{Some, None, refl, sym, ap, ◌∙◌}
 use Rattle.std.specs.Option.{option_copied}
-use Rattle.mea_once.proofs.Causes.{unknown}
+use Rattle.mea_family.proofs.Refusals.{unknown}
 use Rattle.mea_once.proofs.TableEvents.{table_cause, site, rests, told}
 use Rattle.mea_once.proofs.key_part.KeyPart.tell.Goals as goal
 

@@ -1,7 +1,8 @@
 use Rattle.std.proofs.Common.{Some, None, refl, sym, ap, ◌∙◌}
 use Rattle.std.specs.Option.{option_copied_mut}
 use Rattle.mea_once_core.specs.declared.cell_stage.CellStage.TheVariants.{New}
-use Rattle.mea_once.proofs.Causes.{unknown, borrowed, lacking, borrowed_none, if_borrowed}
+use Rattle.mea_once.proofs.Causes.{if_borrowed}
+use Rattle.mea_family.proofs.Refusals.{unknown, borrowed, lacking, borrowed_none}
 use Rattle.mea_once.proofs.PartEvents.{begin_cause, site, few_futures, unchanged, begins_future}
 use Rattle.mea_once.proofs.part.CellPart.begin.Goals as goal
 

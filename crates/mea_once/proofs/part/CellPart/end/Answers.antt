@@ -1,5 +1,5 @@
 use Rattle.std.proofs.Common.{Some, None, refl, sym, ◌∙◌}
-use Rattle.mea_once.proofs.Causes.{unknown}
+use Rattle.mea_family.proofs.Refusals.{unknown}
 use Rattle.mea_once.proofs.PartEvents.{future_cause, site, untaken, its_cell, stands_there, its_room, ended}
 use Rattle.mea_once.proofs.part.CellPart.end.Goals as goal
 

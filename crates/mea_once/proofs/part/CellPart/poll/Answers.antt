@@ -1,7 +1,7 @@
 use Rattle.std.proofs.Common.{Some, None, refl, sym, ap, ◌∙◌}
 use Rattle.std.specs.Option.{option_copied_mut}
 use Rattle.mea_base.proofs.Maps.{get-there, is_there}
-use Rattle.mea_once.proofs.Causes.{unknown, lacking}
+use Rattle.mea_family.proofs.Refusals.{unknown, lacking}
 use Rattle.mea_once.proofs.PartEvents.{future_cause, site, its_cell, stands_there, its_room, looked, polled}
 use Rattle.mea_once.proofs.part.CellPart.poll.Goals as goal
 

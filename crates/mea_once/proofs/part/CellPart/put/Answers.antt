@@ -1,6 +1,7 @@
 use Rattle.std.proofs.Common.{Some, None, sym, ap, ◌∙◌}
 use Rattle.std.specs.Option.{option_copied_mut}
-use Rattle.mea_once.proofs.Causes.{unknown, borrowed, borrowed_none, if_borrowed}
+use Rattle.mea_once.proofs.Causes.{if_borrowed}
+use Rattle.mea_family.proofs.Refusals.{unknown, borrowed, borrowed_none}
 use Rattle.mea_once.proofs.PartEvents.{whole_cause, site, unchanged, is_idle, put_part}
 use Rattle.mea_once.proofs.part.CellPart.put.Goals as goal
 

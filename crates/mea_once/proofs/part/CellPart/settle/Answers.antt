@@ -1,7 +1,7 @@
 use Rattle.std.proofs.Common.{Some, None, refl, sym, ap, ◌∙◌}
 use Rattle.std.specs.Option.{option_copied_mut}
 use Rattle.mea_family.specs.Causes.{unknown_unless}
-use Rattle.mea_once.proofs.Causes.{unknown}
+use Rattle.mea_family.proofs.Refusals.{unknown}
 use Rattle.mea_once.proofs.PartEvents.{settle_cause, site, looked_at, its_cell, its_room, fits_settled, settled_part}
 use Rattle.mea_once.proofs.part.CellPart.settle.Goals as goal
 

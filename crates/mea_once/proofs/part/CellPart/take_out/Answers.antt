@@ -1,5 +1,5 @@
 use Rattle.std.proofs.Common.{refl, sym, ◌∙◌}
-use Rattle.mea_once.proofs.Causes.{as_told, borrowed_none}
+use Rattle.mea_family.proofs.Refusals.{as_told, borrowed_none}
 use Rattle.mea_once.proofs.PartEvents.{site, cell_there, its_room, is_idle, goes_kept, taken_out}
 use Rattle.mea_once.proofs.part.CellPart.take_out.Goals as goal
 

@@ -1,6 +1,7 @@
 use Rattle.std.proofs.Common.{Some, None, refl, sym, ap, ◌∙◌}
 use Rattle.std.specs.Option.{option_copied}
-use Rattle.mea_once.proofs.Causes.{unknown, borrowed, if_borrowed}
+use Rattle.mea_once.proofs.Causes.{if_borrowed}
+use Rattle.mea_family.proofs.Refusals.{unknown, borrowed}
 use Rattle.mea_once.proofs.PartEvents.{use_cause, site, rests, told}
 use Rattle.mea_once.proofs.part.CellPart.tell.Goals as goal
 
