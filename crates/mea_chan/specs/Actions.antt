@@ -22,10 +22,10 @@ use Rattle.mea_chan.specs.declared.actions.BoundedAction.{BoundedAction}
 use Rattle.mea_chan.specs.declared.actions.BoundedAction.TheVariants.{MakeRoom, CopySender, TrySend, BeginSend, PollSend, EndSend, TryReceive, PollReceive, DropSender, DropReceiver}
 use Rattle.mea_chan.specs.declared.actions.MailAction.{MailAction}
 use Rattle.mea_chan.specs.declared.actions.MailAction.TheVariants.{Make, EndSender, Receive, Poll, EndReceiver}
-use Rattle.mea_chan.specs.declared.actions.SharedAction.{SharedAction}
-use Rattle.mea_chan.specs.declared.actions.SharedAction.TheVariants as shared
-use Rattle.mea_chan.specs.declared.actions.SingleAction.{SingleAction}
-use Rattle.mea_chan.specs.declared.actions.SingleAction.TheVariants as single
+use Rattle.mea_chan.specs.declared.actions.UnboundedAction.{UnboundedAction}
+use Rattle.mea_chan.specs.declared.actions.UnboundedAction.TheVariants as unbounded
+use Rattle.mea_chan.specs.declared.actions.OneshotAction.{OneshotAction}
+use Rattle.mea_chan.specs.declared.actions.OneshotAction.TheVariants as oneshot
 use Rattle.mea_chan.specs.declared.actions.BoxAction.{BoxAction}
 use Rattle.mea_chan.specs.declared.actions.BoxAction.TheVariants.{MakeBox, Swap, Store, Tell, TakeOut, DropBox}
 use Rattle.mea_chan.specs.declared.meaning.Meaning.{Meaning}
@@ -54,19 +54,19 @@ mail_action falls (Poll r w) = mail.Poll r w
 mail_action falls (EndReceiver r polls) = mail.EndReceiver r polls falls
 
 -- what is done to unbounded channels
-abbrev pub shared_action : Bool → SharedAction → Action
-shared_action falls (shared.Mail a) = mail_action falls a
-shared_action falls (shared.Copy s) = mail.Copy s
-shared_action falls (shared.Send s v) = mail.Send s v
+abbrev pub unbounded_action : Bool → UnboundedAction → Action
+unbounded_action falls (unbounded.Mail a) = mail_action falls a
+unbounded_action falls (unbounded.Copy s) = mail.Copy s
+unbounded_action falls (unbounded.Send s v) = mail.Send s v
 
 -- what is done to oneshots
-abbrev pub single_action : Bool → SingleAction → Action
-single_action falls (single.Mail a) = mail_action falls a
-single_action falls (single.SendLast s v) = mail.SendLast s v
-single_action falls (single.Turn r) = mail.Turn r
-single_action falls (single.TellClosed s) = mail.TellClosed s
-single_action falls (single.TellOver r) = mail.TellOver r
-single_action falls (single.TellMessage r) = mail.TellMessage r
+abbrev pub oneshot_action : Bool → OneshotAction → Action
+oneshot_action falls (oneshot.Mail a) = mail_action falls a
+oneshot_action falls (oneshot.SendLast s v) = mail.SendLast s v
+oneshot_action falls (oneshot.Turn r) = mail.Turn r
+oneshot_action falls (oneshot.TellClosed s) = mail.TellClosed s
+oneshot_action falls (oneshot.TellOver r) = mail.TellOver r
+oneshot_action falls (oneshot.TellMessage r) = mail.TellMessage r
 
 -- what is done to boxes and to option boxes
 abbrev pub box_action : BoxAction → boxes.BoxAction
@@ -81,8 +81,8 @@ box_action (DropBox b) = boxes.DropBox b
 abbrev pub meant : Meaning → model.Meaning
 meant (Bounded a) = OfBounded (bounded_action a)
 meant (Broadcasts a) = OfBroadcasts (broadcast_action a)
-meant (Unbounded a) = OfChannels kinds.Unbounded (shared_action false a)
-meant (Oneshots a) = OfChannels kinds.Oneshots (single_action true a)
+meant (Unbounded a) = OfChannels kinds.Unbounded (unbounded_action false a)
+meant (Oneshots a) = OfChannels kinds.Oneshots (oneshot_action true a)
 meant (Boxes a) = OfBoxes kinds.Full (box_action a)
 meant (OptionBoxes a) = OfBoxes kinds.Optional (box_action a)
 

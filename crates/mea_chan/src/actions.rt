@@ -42,7 +42,7 @@ pub enum MailAction {
 
 /// What a line does to unbounded channels.
 #[derive(Clone, Copy)]
-pub enum SharedAction {
+pub enum UnboundedAction {
     /// What it may do to a oneshot too.
     Mail(MailAction),
     /// Makes a further sender, beside one: `s`.
@@ -53,7 +53,7 @@ pub enum SharedAction {
 
 /// What a line does to oneshots.
 #[derive(Clone, Copy)]
-pub enum SingleAction {
+pub enum OneshotAction {
     /// What it may do to an unbounded channel too.
     Mail(MailAction),
     /// Sends the message, and the sender is gone: `s`, message.

@@ -48,8 +48,8 @@ impl Kinds {
         match meaning {
             Meaning::Bounded(action) => self.bounded.cause(action),
             Meaning::Broadcasts(action) => self.broadcasts.cause(action),
-            Meaning::Unbounded(action) => self.unbounded.cause_shared(action),
-            Meaning::Oneshots(action) => self.oneshots.cause_single(action),
+            Meaning::Unbounded(action) => self.unbounded.cause_unbounded(action),
+            Meaning::Oneshots(action) => self.oneshots.cause_oneshot(action),
             Meaning::Boxes(action) => self.boxes.cause(action),
             Meaning::OptionBoxes(action) => self.option_boxes.cause(action),
         }
@@ -70,8 +70,8 @@ impl Kinds {
         match meaning {
             Meaning::Bounded(action) => self.bounded.act(number, action, ready),
             Meaning::Broadcasts(action) => self.broadcasts.act(number, action, ready),
-            Meaning::Unbounded(action) => self.unbounded.act_shared(number, action, ready),
-            Meaning::Oneshots(action) => self.oneshots.act_single(number, action, ready),
+            Meaning::Unbounded(action) => self.unbounded.act_unbounded(number, action, ready),
+            Meaning::Oneshots(action) => self.oneshots.act_oneshot(number, action, ready),
             Meaning::Boxes(action) => self.boxes.act(number, action),
             Meaning::OptionBoxes(action) => self.option_boxes.act(number, action),
         }

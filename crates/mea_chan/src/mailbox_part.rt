@@ -2,10 +2,10 @@ ghost use Rattle.std.specs.Prelude.{◌≡◌, ◌≢◌, ◌≤◌, IfSome, is_
 ghost use Rattle.mea_chan_model.specs.Mailboxes.{no_mailboxes, is_channel, is_receiver, registered};
 ghost use Rattle.mea_chan_model.specs.MailboxActions.{cause_in, Make, Copy, Send, SendLast, EndSender, Receive, Poll, EndReceiver, Turn, TellClosed, TellOver, TellMessage};
 ghost use Rattle.mea_chan_model.specs.Valid.{AreValid};
-ghost use Rattle.mea_chan.specs.Actions.{mail_action, shared_action, single_action, MailActs, MailActsQuietly};
+ghost use Rattle.mea_chan.specs.Actions.{mail_action, unbounded_action, oneshot_action, MailActs, MailActsQuietly};
 ghost use Rattle.mea_chan.specs.Lends.{StandsFor};
 
-use crate::actions::{MailAction, SharedAction, SingleAction};
+use crate::actions::{MailAction, OneshotAction, UnboundedAction};
 use crate::channel_entry::ChannelEntry;
 use crate::mailbox_core::{MailboxCore, SharedCore, SingleCore};
 use crate::receiver_entry::{ReceiverEntry, receiver_in};
@@ -219,31 +219,31 @@ impl<C: MailboxCore> MailboxPart<C> {
 
 impl<C: SharedCore> MailboxPart<C> {
     /// Why an action is refused; None where it is not. It takes no memory.
-    pub fn cause_shared(&self, action: SharedAction) -> Option<Stop>
-        ensures { result ≡ cause_in self.now.hall (shared_action C.falls action) }
+    pub fn cause_unbounded(&self, action: UnboundedAction) -> Option<Stop>
+        ensures { result ≡ cause_in self.now.hall (unbounded_action C.falls action) }
     {
         match action {
-            SharedAction::Mail(action) => self.cause(action),
-            SharedAction::Copy(s) => self.cause_of_copy(s),
-            SharedAction::Send(s, _) => unknown_unless(self.senders.has(s)),
+            UnboundedAction::Mail(action) => self.cause(action),
+            UnboundedAction::Copy(s) => self.cause_of_copy(s),
+            UnboundedAction::Send(s, _) => unknown_unless(self.senders.has(s)),
         }
     }
 
     /// Does an action, or finds why it is refused. On an error nothing has changed.
-    pub fn act_shared(
+    pub fn act_unbounded(
         &mut self,
         number: u64,
-        action: SharedAction,
+        action: UnboundedAction,
         ready: &mut Ready<u64>,
     ) -> Result<Answer, Stop>
         requires next { self.old.next ≤ number }
         requires room { registered self.old.hall ≤ ready.old.registered }
-        ensures { MailActs self.old number (shared_action C.falls action) result self.new ready.old ready.new }
+        ensures { MailActs self.old number (unbounded_action C.falls action) result self.new ready.old ready.new }
     {
         match action {
-            SharedAction::Mail(action) => self.act(number, action, ready),
-            SharedAction::Copy(s) => self.copy(number, s),
-            SharedAction::Send(s, message) => self.send(number, s, message, ready),
+            UnboundedAction::Mail(action) => self.act(number, action, ready),
+            UnboundedAction::Copy(s) => self.copy(number, s),
+            UnboundedAction::Send(s, message) => self.send(number, s, message, ready),
         }
     }
 
@@ -300,39 +300,39 @@ impl<C: SharedCore> MailboxPart<C> {
 
 impl<C: SingleCore> MailboxPart<C> {
     /// Why an action is refused; None where it is not. It takes no memory.
-    pub fn cause_single(&self, action: SingleAction) -> Option<Stop>
-        ensures { result ≡ cause_in self.now.hall (single_action C.falls action) }
+    pub fn cause_oneshot(&self, action: OneshotAction) -> Option<Stop>
+        ensures { result ≡ cause_in self.now.hall (oneshot_action C.falls action) }
     {
         match action {
-            SingleAction::Mail(action) => self.cause(action),
-            SingleAction::SendLast(s, _) | SingleAction::TellClosed(s) => unknown_unless(
+            OneshotAction::Mail(action) => self.cause(action),
+            OneshotAction::SendLast(s, _) | OneshotAction::TellClosed(s) => unknown_unless(
                 self.senders.has(s),
             ),
-            SingleAction::Turn(r) => unknown_unless(self.is_receiver(r, false)),
-            SingleAction::TellOver(r) | SingleAction::TellMessage(r) => unknown_unless(
+            OneshotAction::Turn(r) => unknown_unless(self.is_receiver(r, false)),
+            OneshotAction::TellOver(r) | OneshotAction::TellMessage(r) => unknown_unless(
                 self.is_receiver(r, false),
             ),
         }
     }
 
     /// Does an action, or finds why it is refused. On an error nothing has changed.
-    pub fn act_single(
+    pub fn act_oneshot(
         &mut self,
         number: u64,
-        action: SingleAction,
+        action: OneshotAction,
         ready: &mut Ready<u64>,
     ) -> Result<Answer, Stop>
         requires next { self.old.next ≤ number }
         requires room { registered self.old.hall ≤ ready.old.registered }
-        ensures { MailActs self.old number (single_action C.falls action) result self.new ready.old ready.new }
+        ensures { MailActs self.old number (oneshot_action C.falls action) result self.new ready.old ready.new }
     {
         match action {
-            SingleAction::Mail(action) => self.act(number, action, ready),
-            SingleAction::SendLast(s, message) => self.send_last(number, s, message, ready),
-            SingleAction::Turn(r) => self.turn(number, r),
-            SingleAction::TellClosed(s) => self.tell_closed(number, s),
-            SingleAction::TellOver(r) => self.tell_over(number, r),
-            SingleAction::TellMessage(r) => self.tell_message(number, r),
+            OneshotAction::Mail(action) => self.act(number, action, ready),
+            OneshotAction::SendLast(s, message) => self.send_last(number, s, message, ready),
+            OneshotAction::Turn(r) => self.turn(number, r),
+            OneshotAction::TellClosed(s) => self.tell_closed(number, s),
+            OneshotAction::TellOver(r) => self.tell_over(number, r),
+            OneshotAction::TellMessage(r) => self.tell_message(number, r),
         }
     }
 

@@ -2,7 +2,7 @@ ghost use Rattle.std.specs.Prelude.{◌≡◌};
 ghost use Rattle.mea_chan_model.specs.Meaning.{meaning_of};
 ghost use Rattle.mea_chan.specs.Actions.{meant, FitsMeaning};
 
-use crate::actions::{BoundedAction, BoxAction, MailAction, SharedAction, SingleAction};
+use crate::actions::{BoundedAction, BoxAction, MailAction, OneshotAction, UnboundedAction};
 use mea_chan_broadcast::BroadcastAction;
 use mea_events::ChanEvent;
 
@@ -14,9 +14,9 @@ pub enum Meaning {
     /// Something to broadcast channels.
     Broadcasts(BroadcastAction),
     /// Something to unbounded channels.
-    Unbounded(SharedAction),
+    Unbounded(UnboundedAction),
     /// Something to oneshots.
-    Oneshots(SingleAction),
+    Oneshots(OneshotAction),
     /// Something to boxes.
     Boxes(BoxAction),
     /// Something to option boxes.
@@ -52,20 +52,20 @@ pub fn meaning_of(event: &ChanEvent) -> Meaning
         ChanEvent::BcEndr(r) => Meaning::Broadcasts(BroadcastAction::EndReceiver(r)),
         ChanEvent::BcEnds(s) => Meaning::Broadcasts(BroadcastAction::EndSender(s)),
         ChanEvent::MuNew => on_unbounded(MailAction::Make(true)),
-        ChanEvent::MuCopy(s) => Meaning::Unbounded(SharedAction::Copy(s)),
-        ChanEvent::MuSend(s, v) => Meaning::Unbounded(SharedAction::Send(s, v)),
+        ChanEvent::MuCopy(s) => Meaning::Unbounded(UnboundedAction::Copy(s)),
+        ChanEvent::MuSend(s, v) => Meaning::Unbounded(UnboundedAction::Send(s, v)),
         ChanEvent::MuTryr(r) => on_unbounded(MailAction::Receive(r, true)),
         ChanEvent::MuRecv(r, waker) => on_unbounded(MailAction::Poll(r, waker)),
         ChanEvent::MuEnds(s) => on_unbounded(MailAction::EndSender(s)),
         ChanEvent::MuEndr(r) => on_unbounded(MailAction::EndReceiver(r, true)),
         ChanEvent::OsNew => on_oneshots(MailAction::Make(false)),
-        ChanEvent::OsSend(s, v) => Meaning::Oneshots(SingleAction::SendLast(s, v)),
+        ChanEvent::OsSend(s, v) => Meaning::Oneshots(OneshotAction::SendLast(s, v)),
         ChanEvent::OsEnds(s) => on_oneshots(MailAction::EndSender(s)),
-        ChanEvent::OsClosed(s) => Meaning::Oneshots(SingleAction::TellClosed(s)),
-        ChanEvent::OsClosedr(r) => Meaning::Oneshots(SingleAction::TellOver(r)),
-        ChanEvent::OsHas(r) => Meaning::Oneshots(SingleAction::TellMessage(r)),
+        ChanEvent::OsClosed(s) => Meaning::Oneshots(OneshotAction::TellClosed(s)),
+        ChanEvent::OsClosedr(r) => Meaning::Oneshots(OneshotAction::TellOver(r)),
+        ChanEvent::OsHas(r) => Meaning::Oneshots(OneshotAction::TellMessage(r)),
         ChanEvent::OsTry(r) => on_oneshots(MailAction::Receive(r, false)),
-        ChanEvent::OsInto(r) => Meaning::Oneshots(SingleAction::Turn(r)),
+        ChanEvent::OsInto(r) => Meaning::Oneshots(OneshotAction::Turn(r)),
         ChanEvent::OsPoll(f, waker) => on_oneshots(MailAction::Poll(f, waker)),
         ChanEvent::OsEndr(r) => on_oneshots(MailAction::EndReceiver(r, false)),
         ChanEvent::OsEnd(f) => on_oneshots(MailAction::EndReceiver(f, true)),
@@ -89,14 +89,14 @@ pub fn meaning_of(event: &ChanEvent) -> Meaning
 
 // What may be done to a oneshot too, done to unbounded channels.
 fn on_unbounded(action: MailAction) -> Meaning
-    ensures { result ≡ Meaning.Unbounded (SharedAction.Mail action) }
+    ensures { result ≡ Meaning.Unbounded (UnboundedAction.Mail action) }
 {
-    Meaning::Unbounded(SharedAction::Mail(action))
+    Meaning::Unbounded(UnboundedAction::Mail(action))
 }
 
 // What may be done to an unbounded channel too, done to oneshots.
 fn on_oneshots(action: MailAction) -> Meaning
-    ensures { result ≡ Meaning.Oneshots (SingleAction.Mail action) }
+    ensures { result ≡ Meaning.Oneshots (OneshotAction.Mail action) }
 {
-    Meaning::Oneshots(SingleAction::Mail(action))
+    Meaning::Oneshots(OneshotAction::Mail(action))
 }

@@ -1,5 +1,5 @@
 -- each call moves messages from the accepted through the queue to the received, or drops the queue
-use Rattle.std.proofs.Common.{◌≡◌, ℕ, ◌+◌, ◌-◌, ◌==◌, ◌++◌, Bool, true, false, cond, not, List, [], ◌∷◌, Option, Some, None, Result, Ok, Err, MatchResult, length, option_to_list, refl, ap, sym, subst, ◌∙◌, ◌≤◌, arith, append-nil, append_assoc}
+use Rattle.std.proofs.Common.{◌≡◌, ℕ, ◌-◌, ◌==◌, ◌++◌, Bool, true, false, cond, not, List, [], ◌∷◌, Option, Some, None, Result, Ok, Err, MatchResult, length, option_to_list, refl, ap, sym, subst, ◌∙◌, ◌≤◌, arith, append-nil, append_assoc}
 use Rattle.std.specs.FinMap as map
 use Rattle.mea_base.specs.declared.poll.Poll.{Poll}
 use Rattle.mea_base.specs.declared.poll.Poll.TheVariants.{Ready, Pending}
@@ -13,7 +13,7 @@ use Rattle.mea_chan_core.specs.declared.errors.RecvError.{RecvError}
 use Rattle.mea_chan_core.specs.declared.errors.TryRecvError.{TryRecvError}
 use Rattle.mea_chan_core.specs.declared.errors.TryRecvError.TheVariants as try
 use Rattle.mea_chan_core.specs.Channel.{Channel}
-use Rattle.mea_chan_core.specs.Bounded.{with_message, send_answer, after_send, is_full, recv_answer, recv_answer_of, after_recv, after_recv_of, StaysPending, StaysBy, MayQueueAnew, PollsValue, PollsSend, PollsRecv, without_receiver, without_sender}
+use Rattle.mea_chan_core.specs.Bounded.{with_message, send_answer, after_send, is_full, recv_answer, recv_answer_of, after_recv, after_recv_of, StaysPending, StaysBy, MayQueueAnew, PollsValue, PollsSend, PollsRecv, without_sender}
 use Rattle.mea_chan_core.specs.Mailbox as mailbox
 use Rattle.mea_chan_core.specs.Mailbox.{Mailbox}
 use Rattle.mea_chan_core.specs.Oneshot as oneshot

@@ -1,5 +1,5 @@
 -- each send that was granted a place has had its waker woken, and enough were granted
-use Rattle.std.proofs.Common.{◌≡◌, ◌≢◌, ◌⊎◌, inl, inr, ℕ, zero, suc, ◌+◌, ◌-◌, ◌==◌, ◌++◌, Bool, true, false, cond, List, [], ◌∷◌, take, drop, Option, Some, None, length, refl, ap, sym, subst, ◌∙◌, arith, append_assoc, Contains}
+use Rattle.std.proofs.Common.{◌≡◌, ◌≢◌, ◌⊎◌, inl, inr, ℕ, zero, suc, ◌+◌, ◌==◌, ◌++◌, Bool, true, false, cond, List, [], ◌∷◌, take, drop, Option, Some, None, length, refl, ap, sym, subst, ◌∙◌, arith, append_assoc, Contains}
 use Rattle.std.specs.Prelude.{map as map_list}
 use Rattle.std.specs.Ordering.{nat_cmp}
 use Rattle.std.specs.Cmp.{nat_cmp_total}

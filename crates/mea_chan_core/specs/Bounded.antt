@@ -1,5 +1,5 @@
 -- what the calls of a bounded channel do
-use Rattle.std.specs.Prelude.{ℕ, ◌≡◌, ◌+◌, ◌-◌, ◌==◌, ◌++◌, Bool, true, List, [], ◌∷◌, length, Option, Some, None, option_to_list, Result, Ok, Err, IsOk, MatchResult, if◌then◌else◌}
+use Rattle.std.specs.Prelude.{ℕ, ◌≡◌, ◌-◌, ◌==◌, ◌++◌, Bool, true, List, [], ◌∷◌, length, Option, Some, None, option_to_list, Result, Ok, Err, IsOk, MatchResult, if◌then◌else◌}
 use Rattle.std.specs.FinMap as map
 use Rattle.mea_base.specs.declared.poll.Poll.{Poll}
 use Rattle.mea_base.specs.declared.poll.Poll.TheVariants.{Ready, Pending}

@@ -1,4 +1,4 @@
-ghost use Rattle.std.specs.Prelude.{◌≡◌, ◌≢◌, ◌+◌, ◌-◌, ◌<◌, ◌≤◌, ◌^◌, ◌↔◌, [], ◌∷◌, ◌++◌, length, Some, None, Ok, Err, false, true, IfOk, IfErr, IfSome, IfNone, OnOk, OnErr, IsOk, IsErr, IsSome, IsTrue, is_some};
+ghost use Rattle.std.specs.Prelude.{◌≡◌, ◌+◌, ◌-◌, ◌<◌, ◌≤◌, ◌^◌, ◌↔◌, [], ◌∷◌, length, Some, None, Ok, Err, false, true, IfOk, IfSome, IfNone, OnOk, OnErr, IsOk, IsErr, IsSome, IsTrue, is_some};
 ghost use Rattle.mea_sem_core.specs.Acquire.{demand_of};
 ghost use Rattle.mea_sem_core.specs.Calls.{Belongs, with_waker};
 ghost use Rattle.mea_chan_core.specs.Channel.{Channel, no_senders};
@@ -194,15 +194,15 @@ impl<T: Drop, W: Drop> BoundedCore<T, W> {
         ensures answer { result ≡ recv_answer self.old }
         ensures after { self.new ≡ after_recv self.old }
     {
-        let Some(value) = self.messages.pop_front() else {
-            if self.ended || self.senders == 0 {
-                return Err(TryRecvError::Disconnected);
+        match self.messages.pop_front() {
+            Some(value) => {
+                self.waiting.release_if_waiting(1);
+                move_wakes(&mut self.waiting, &mut self.outbox);
+                Ok(value)
             }
-            return Err(TryRecvError::Empty);
-        };
-        self.waiting.release_if_waiting(1);
-        move_wakes(&mut self.waiting, &mut self.outbox);
-        Ok(value)
+            None if self.ended || self.senders == 0 => Err(TryRecvError::Disconnected),
+            None => Err(TryRecvError::Empty),
+        }
     }
 
     /// Polls a receive: ready as `try_recv`, or pending with the waker in the place of the one before. It takes memory
@@ -215,7 +215,10 @@ impl<T: Drop, W: Drop> BoundedCore<T, W> {
             Ok(value) => Ok(Poll::Ready(Ok(value))),
             Err(TryRecvError::Disconnected) => Ok(Poll::Ready(Err(RecvError::Disconnected))),
             Err(TryRecvError::Empty) => {
-                self.wait_for_message(waker)?;
+                if self.outbox.reserve(self.waiting.queue_len() + 1).is_err() {
+                    return Err((waker, NoMemory));
+                }
+                self.waker = Some(waker);
                 Ok(Poll::Pending)
             }
         }
@@ -228,10 +231,7 @@ impl<T: Drop, W: Drop> BoundedCore<T, W> {
         ensures ok { OnOk result (self.new ≡ record self.old { senders = self.old.senders + 1 }) }
         ensures err { OnErr result (self.new ≡ self.old) }
     {
-        let Some(senders) = self.senders.checked_add(1) else {
-            return Err(Overflow);
-        };
-        self.senders = senders;
+        self.senders = self.senders.checked_add(1).ok_or(Overflow)?;
         Ok(())
     }
 
@@ -340,22 +340,5 @@ impl<T: Drop, W: Drop> BoundedCore<T, W> {
             }
             Err(failed) => Err(failed),
         }
-    }
-
-    // Keeps the receiver's waker.
-    fn wait_for_message(&mut self, waker: W) -> Result<(), (W, NoMemory)>
-        requires { (self.old.queued ≡ []) × (0 < self.old.senders) }
-        ensures ok { OnOk result (self.new ≡ record self.old { waker = Some waker }) }
-        ensures err { IfErr result (λ e. (e.0 ≡ waker) × (self.new ≡ self.old)) }
-        ensures replaces { IsSome self.old.waker → IsOk result }
-    {
-        let Some(wanted) = self.waiting.queue_len().checked_add(1) else {
-            return Err((waker, NoMemory));
-        };
-        if self.outbox.reserve(wanted).is_err() {
-            return Err((waker, NoMemory));
-        }
-        self.waker = Some(waker);
-        Ok(())
     }
 }

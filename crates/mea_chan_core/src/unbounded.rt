@@ -1,4 +1,4 @@
-ghost use Rattle.std.specs.Prelude.{◌≡◌, ◌≢◌, ◌+◌, ◌<◌, ◌^◌, ◌↔◌, [], ◌∷◌, length, Some, None, Ok, Err, false, true, IfOk, IfErr, IfSome, IfNone, OnOk, OnErr, IsOk, IsErr, IsSome, MatchResult, is_some};
+ghost use Rattle.std.specs.Prelude.{◌≡◌, ◌+◌, ◌<◌, ◌^◌, ◌↔◌, [], ◌∷◌, length, Some, None, Ok, Err, false, true, IfSome, IfNone, OnOk, OnErr, IsOk, IsErr, IsSome, MatchResult, is_some};
 ghost use Rattle.mea_chan_core.specs.Mailbox.{Mailbox, with_message, recv_answer, after_recv, PollsRecv, without_receiver, without_sender};
 
 use crate::errors::{RecvError, TryRecvError, UnboundedError};
@@ -104,13 +104,11 @@ impl<T: Drop, W: Drop> UnboundedCore<T, W> {
         ensures answer { result ≡ recv_answer self.old }
         ensures after { self.new ≡ after_recv self.old }
     {
-        let Some(value) = self.messages.pop_front() else {
-            if self.ended || self.senders == 0 {
-                return Err(TryRecvError::Disconnected);
-            }
-            return Err(TryRecvError::Empty);
-        };
-        Ok(value)
+        match self.messages.pop_front() {
+            Some(value) => Ok(value),
+            None if self.ended || self.senders == 0 => Err(TryRecvError::Disconnected),
+            None => Err(TryRecvError::Empty),
+        }
     }
 
     /// Polls a receive: ready as `try_recv`, or pending with the waker in the place of the one before. It takes memory
@@ -122,8 +120,9 @@ impl<T: Drop, W: Drop> UnboundedCore<T, W> {
         match self.try_recv() {
             Ok(value) => Ok(Poll::Ready(Ok(value))),
             Err(TryRecvError::Disconnected) => Ok(Poll::Ready(Err(RecvError::Disconnected))),
+            Err(TryRecvError::Empty) if self.outbox.reserve(1).is_err() => Err((waker, NoMemory)),
             Err(TryRecvError::Empty) => {
-                self.wait_for_message(waker)?;
+                self.waker = Some(waker);
                 Ok(Poll::Pending)
             }
         }
@@ -136,10 +135,7 @@ impl<T: Drop, W: Drop> UnboundedCore<T, W> {
         ensures ok { OnOk result (self.new ≡ record self.old { senders = self.old.senders + 1 }) }
         ensures err { OnErr result (self.new ≡ self.old) }
     {
-        let Some(senders) = self.senders.checked_add(1) else {
-            return Err(Overflow);
-        };
-        self.senders = senders;
+        self.senders = self.senders.checked_add(1).ok_or(Overflow)?;
         Ok(())
     }
 
@@ -177,19 +173,5 @@ impl<T: Drop, W: Drop> UnboundedCore<T, W> {
         ensures none { IfNone result ((self.old.wakes ≡ []) × (self.new ≡ self.old)) }
     {
         self.outbox.pop()
-    }
-
-    // Keeps the receiver's waker.
-    fn wait_for_message(&mut self, waker: W) -> Result<(), (W, NoMemory)>
-        requires { (self.old.queued ≡ []) × (0 < self.old.senders) }
-        ensures ok { OnOk result (self.new ≡ record self.old { waker = Some waker }) }
-        ensures err { IfErr result (λ e. (e.0 ≡ waker) × (self.new ≡ self.old)) }
-        ensures replaces { IsSome self.old.waker → IsOk result }
-    {
-        if self.outbox.reserve(1).is_err() {
-            return Err((waker, NoMemory));
-        }
-        self.waker = Some(waker);
-        Ok(())
     }
 }

@@ -23,7 +23,7 @@ use Rattle.mea_lock_model.specs.Meaning.{meaning_of}
 use Rattle.mea_chan_model.specs.ChanHall.{Unbounded, Oneshots, ReceiverOf, ReceiverOfBounded}
 use Rattle.mea_chan_model.specs.ChanFamily as chan
 use Rattle.mea_share_model.specs.ShareFamily as share
-use Rattle.mea_once_model.specs.OnceHall.{Onces, Values, Maps, Groups}
+use Rattle.mea_once_model.specs.OnceHall.{Onces, OnceCells, Maps, Groups}
 use Rattle.mea_once_model.specs.OnceFamily as once
 use Rattle.mea_marks.specs.declared.sort.Sort.TheVariants as sorts
 use Rattle.mea_marks.specs.Deeds.{deed_of, semaphore_deed, meet_deed, lock_deed, chan_deed, share_deed, once_deed}
@@ -138,7 +138,7 @@ calls_poll (onces.OmPoll g w) f = refl
 calls_poll (onces.SfPoll g w) f = refl
 calls_poll _ f = refl
 
-cells_poll : (e : OnceEvent) (f : ℕ) → once.polled e (once.AtCell Values f) ≡ polled_by (deed_of (Once e)) (thing_of sorts.CellWait f)
+cells_poll : (e : OnceEvent) (f : ℕ) → once.polled e (once.AtCell OnceCells f) ≡ polled_by (deed_of (Once e)) (thing_of sorts.CellWait f)
 unfolding once_deed code_of
 cells_poll (onces.OnPoll g w) f = refl
 cells_poll (onces.OcPoll g w) f = refl
@@ -184,7 +184,7 @@ chans_poll e (chan.Hears f) = hearings_poll e f
 
 onces_poll : (e : OnceEvent) (f : once.Future) → once.polled e f ≡ polled_by (deed_of (Once e)) (once_thing f)
 onces_poll e (once.AtCell Onces f) = calls_poll e f
-onces_poll e (once.AtCell Values f) = cells_poll e f
+onces_poll e (once.AtCell OnceCells f) = cells_poll e f
 onces_poll e (once.ByKey Maps f) = maps_poll e f
 onces_poll e (once.ByKey Groups f) = flights_poll e f
 

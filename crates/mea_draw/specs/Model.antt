@@ -16,7 +16,7 @@ use Rattle.mea_lock_model.specs.LockFamily as lock
 use Rattle.mea_chan_model.specs.ChanHall.{Unbounded, Oneshots, ReceiverOf, ReceiverOfBounded}
 use Rattle.mea_chan_model.specs.ChanFamily as chan
 use Rattle.mea_share_model.specs.ShareFamily as share
-use Rattle.mea_once_model.specs.OnceHall.{Onces, Values, Maps, Groups}
+use Rattle.mea_once_model.specs.OnceHall.{Onces, OnceCells, Maps, Groups}
 use Rattle.mea_once_model.specs.OnceFamily as once
 use Rattle.mea_marks.specs.declared.deed.Deed.{Deed}
 use Rattle.mea_marks.specs.declared.deed.Deed.TheVariants.{Polls}
@@ -52,7 +52,7 @@ chan_thing (chan.Hears f) = thing_of sorts.Hear f
 
 abbrev pub once_thing : once.Future → Thing
 once_thing (once.AtCell Onces f) = thing_of sorts.CallWait f
-once_thing (once.AtCell Values f) = thing_of sorts.CellWait f
+once_thing (once.AtCell OnceCells f) = thing_of sorts.CellWait f
 once_thing (once.ByKey Maps f) = thing_of sorts.MapWait f
 once_thing (once.ByKey Groups f) = thing_of sorts.FlightWait f
 

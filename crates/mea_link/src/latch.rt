@@ -1,10 +1,7 @@
 //! A latch that threads and tasks share: `mea::latch`.
-ghost use Rattle.std.specs.Prelude.{◌≡◌, ◌-◌, length};
-ghost use Rattle.mea_meet_seats.specs.Seats.{fallen};
-
 use mea_base::{NoMemory, Poll, Wake};
-use mea_meet_core::LatchWait as Place;
-use mea_meet_seats::LatchSeats;
+use mea_meet_seats::CountSeats;
+use mea_sets::Place;
 use mea_wait::{End, Holds, PollFault, Polled, Unpolled, Waits, hand_out};
 use std::alloc::Global;
 use std::marker::PhantomData;
@@ -13,13 +10,13 @@ use std::sync::{Arc, Mutex, Wait};
 /// A count that falls to 0 and stays there. It ports `mea::latch::Latch`.
 #[derive(Drop)]
 pub struct Latch<W> {
-    core: Mutex<LatchSeats<W>>,
+    core: Mutex<CountSeats<W>>,
 }
 
 /// A wait until a latch is at 0. It must be polled to its end, or ended; ended, it leaves nothing behind.
 pub struct Opening<H, W> {
     of: H,
-    place: Place,
+    place: Option<Place>,
     waker: PhantomData<W>,
 }
 
@@ -29,21 +26,11 @@ pub type LatchWait<'a, W> = Opening<&'a Latch<W>, W>;
 /// The future of `Latch::wait_owned`.
 pub type OwnedLatchWait<W> = Opening<Arc<Latch<W>>, W>;
 
-// The count falls, in one step under the lock. It tells how many wakers that made ready.
-fn arrive<W: Drop>(core: &mut LatchSeats<W>, n: u32) -> usize
-    ensures is { core.new ≡ fallen core.old n }
-    ensures made { result ≡ length core.new.wakes - length core.old.wakes }
-{
-    let before = core.wakes_ready();
-    core.arrive(n);
-    core.wakes_ready().saturating_sub(before)
-}
-
 impl<W: Wake> Latch<W> {
     /// A latch at this count. It takes no memory.
     pub fn new(alloc: Global, count: u32) -> Self {
         Latch {
-            core: Mutex::new(LatchSeats::new(alloc, count)),
+            core: Mutex::new(CountSeats::new(alloc, count)),
         }
     }
 
@@ -61,7 +48,7 @@ impl<W: Wake> Latch<W> {
     /// Takes `n` from the count, at the least to 0, and wakes all who wait where it reaches 0. It takes no
     /// memory.
     pub fn arrive<R: Wait>(&self, rt: &R, n: u32) {
-        let made = arrive(&mut *self.core.lock(rt), n);
+        let made = self.core.lock(rt).decrement(n);
         hand_out(made, || self.core.lock(rt).next_wake());
     }
 
@@ -86,7 +73,7 @@ impl<W: Wake, H: Holds<Latch<W>>> Opening<H, W> {
     fn of(of: H) -> Self {
         Opening {
             of,
-            place: Place::new(),
+            place: None,
             waker: PhantomData,
         }
     }

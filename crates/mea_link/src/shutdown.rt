@@ -1,11 +1,8 @@
 //! A shutdown that threads and tasks share: `mea::shutdown`.
-ghost use Rattle.std.specs.Prelude.{◌≡◌, ◌-◌, ◌<◌, length};
-ghost use Rattle.mea_meet_seats.specs.Seats.{fallen};
-
 mod waits;
 
 use mea_base::{NoMemory, Wake};
-use mea_meet_seats::{GroupSeats, LatchSeats};
+use mea_meet_seats::CountSeats;
 use mea_wait::{End, HandleFault, hand_out};
 use std::alloc::Global;
 use std::sync;
@@ -33,44 +30,23 @@ pub struct ShutdownWatch<W> {
 /// who wait for it.
 #[derive(Drop)]
 pub struct Shared<W> {
-    signal: Mutex<LatchSeats<W>>,
-    receivers: Mutex<GroupSeats<W>>,
+    signal: Mutex<CountSeats<W>>,
+    receivers: Mutex<CountSeats<W>>,
 }
 
 /// A shutdown: its sender and its first receiver.
 pub fn new_pair<W: Wake>(alloc: Global) -> Result<(ShutdownSend<W>, ShutdownRecv<W>), NoMemory> {
-    let signal = Mutex::new(LatchSeats::new(alloc, 1));
-    let receivers = Mutex::new(GroupSeats::new(alloc));
+    let signal = Mutex::new(CountSeats::new(alloc, 1));
+    let receivers = Mutex::new(CountSeats::new(alloc, 1));
     let shared = Arc::new(alloc, Shared { signal, receivers })?;
     let other = Arc::try_clone(&shared)?;
     Ok((ShutdownSend { shared }, ShutdownRecv { shared: other }))
 }
 
-// The signal is set, in one step under the lock. It tells how many wakers that made ready.
-fn signal<W: Drop>(core: &mut LatchSeats<W>) -> usize
-    ensures is { core.new ≡ fallen core.old 1 }
-    ensures made { result ≡ length core.new.wakes - length core.old.wakes }
-{
-    let before = core.wakes_ready();
-    core.arrive(1);
-    core.wakes_ready().saturating_sub(before)
-}
-
-// A receiver ends, in one step under the lock. It tells how many wakers that made ready.
-fn end_receiver<W: Drop>(core: &mut GroupSeats<W>) -> usize
-    ensures leaves { 0 < core.old.seats.count.number → core.new ≡ fallen core.old 1 }
-    ensures ended { core.old.seats.count.number ≡ 0 → core.new ≡ core.old }
-    ensures made { result ≡ length core.new.wakes - length core.old.wakes }
-{
-    let before = core.wakes_ready();
-    core.leave();
-    core.wakes_ready().saturating_sub(before)
-}
-
 impl<W: Wake> ShutdownSend<W> {
     /// Asks for the shutdown, and wakes all who wait for that. It takes no memory.
     pub fn shutdown<R: sync::Wait>(&self, rt: &R) {
-        let made = signal(&mut *self.shared.signal.lock(rt));
+        let made = self.shared.signal.lock(rt).decrement(1);
         hand_out(made, || self.shared.signal.lock(rt).next_wake());
     }
 
@@ -99,7 +75,7 @@ impl<W: Wake> ShutdownRecv<W> {
     /// has changed.
     pub fn clone_handle<R: sync::Wait>(&self, rt: &R) -> Result<Self, HandleFault> {
         let shared = Arc::try_clone(&self.shared)?;
-        let added = shared.receivers.lock(rt).add();
+        let added = shared.receivers.lock(rt).increment();
         added?;
         Ok(ShutdownRecv { shared })
     }
@@ -159,7 +135,7 @@ impl<W: Wake> End for ShutdownWatch<W> {
 impl<W: Wake> End for ShutdownRecv<W> {
     fn end<R: sync::Wait>(self, rt: &R) {
         let ShutdownRecv { shared } = self;
-        let made = end_receiver(&mut *shared.receivers.lock(rt));
+        let made = shared.receivers.lock(rt).decrement(1);
         hand_out(made, || shared.receivers.lock(rt).next_wake());
     }
 }

@@ -3,7 +3,7 @@ use Rattle.std.proofs.Common.{◌≡◌, ◌≤◌, ◌<◌, ℕ, suc, ◌+◌, 
 use Rattle.std.proofs.lemmas.Bool.Decides.{nat_tests}
 use Rattle.std.proofs.lemmas.Grind.{common_steps}
 use Rattle.mea_sets.specs.declared.place.Place.{Place}
-use Rattle.mea_sets.specs.WaitSet.{Registered, is_registered, has_given, with_waker}
+use Rattle.mea_sets.specs.WaitSet.{Registered, is_registered, with_waker}
 use Rattle.mea_base.specs.declared.no_memory.NoMemory.{NoMemory}
 use Rattle.mea_sets.specs.Poll.{Poll}
 use Rattle.mea_sets.specs.Countdown.{Count, PollsCount}
@@ -11,12 +11,7 @@ use Rattle.mea_meet_seats.specs.Vacant.{first_or, others_of}
 use Rattle.mea_meet_seats.specs.Seats.{AllThere}
 
 module _ {S : Type 0} where
-  -- a place in the set is one that the set has given
-  pub given_where_registered : (s : Registered S) (slot : Option Place) → is_registered s slot ≡ true → has_given s slot ≡ true
-  given_where_registered s None there = refl
-  given_where_registered s (Some place) there = grind (arith, nat_tests, common_steps)
-
-  -- and it stays one
+  -- a place in the set stays one
   pub stays_registered : (s : Registered S) (slot : Option Place) (w : S) (place : Option Place) → is_registered s place ≡ true
       → is_registered (with_waker s slot w) place ≡ true
   stays_registered s None w None there = there

@@ -8,7 +8,7 @@ use Rattle.mea_by_name.specs.declared.named_waker.NamedWaker.{NamedWaker}
 use Rattle.mea_by_name.specs.ByName.{Names}
 use Rattle.mea_by_name.proofs.Own.{insert_same}
 use Rattle.mea_once_core.specs.Keyed.{EndsAt, Discards}
-use Rattle.mea_once_model.specs.declared.job.Initialiser.{Initialiser}
+use Rattle.mea_once_model.specs.declared.errand.Initialiser.{Initialiser}
 use Rattle.mea_once_model.specs.Tables as tables
 use Rattle.mea_once_model.specs.Tables.{without_key}
 use Rattle.mea_once.specs.declared.key_future.KeyFuture.{KeyFuture}

@@ -20,7 +20,7 @@ use Rattle.mea_once_core.specs.declared.init_call.InitCall.{InitCall}
 use Rattle.mea_once_core.specs.declared.key_call.KeyCall.{KeyCall}
 use Rattle.mea_once_core.specs.declared.key_call.KeyStage.TheVariants as key_stages
 use Rattle.mea_once_core.specs.declared.cell_stage.CellStage.TheVariants.{New}
-use Rattle.mea_once_model.specs.declared.job.Job.TheVariants.{Computes}
+use Rattle.mea_once_model.specs.declared.errand.Errand.TheVariants.{Computes}
 use Rattle.mea_once_model.specs.Cells as cells
 use Rattle.mea_once_model.specs.Cells.{Cell, CellFuture, Step}
 use Rattle.mea_once_model.specs.Tables as tables
@@ -137,7 +137,7 @@ module _ (once : Bool) (e : KeptTable) (f w : ℕ) (x : KeyFuture) (i : ℕ) (s 
         by_did n r0.entry r0 se0 e.current (number e.keyed x.key) start0 k' (running_in call'.call.stage r0.running (named f w)) told e3 x3
         (key_step once e f w x i s n r0.entry r0 se0 e.current (number e.keyed x.key) start0 (cells.poll f w (future_seen (as_caller x)) (parts.cell_seen (kept_cell se0.cell r0)))) did.0 did.1
         (λ h tables_there count. ap (tables.poll once h i f w (key_future_seen x) (table_seen e)) of ∙ in_round_is once e s.fs f x n (cells.poll f w) h (parts.cell_seen (kept_cell se0.cell r0)) (future_seen (as_caller x)) (count n) (seen_round e n r0 se0 there0 shown0.there)
-        (λ j. record { cell = x.table; job = Computes x.call.call.init.outcome; polled = (ap is_some of ∙ sym (its_call once e f x i s (Some n) of).4) j }))
+        (λ j. record { cell = x.table; errand = Computes x.call.call.init.outcome; polled = (ap is_some of ∙ sym (its_call once e f x i s (Some n) of).4) j }))
 
   -- it is a caller of none yet
   module _ (of : x.round ≡ None) (k' : NamedKeyed) (call' : KeyCall ℕ Scripted) (poll : Poll (Result ℕ ℕ)) (polls : PollsKey answers nat_eq once e.keyed x.call (named f w) (Ok poll) k' call') where
@@ -148,7 +148,7 @@ module _ (once : Bool) (e : KeptTable) (f w : ℕ) (x : KeyFuture) (i : ℕ) (s 
     first = subst (λ st. PollsAt answers nat_eq once st e.keyed x.call.call (named f w) (Ok poll) k' call'.call call'.stage) new_stage.0 polls
 
     new_caller : tables.caller (key_future_seen x) ≡ future_seen (as_caller x)
-    new_caller = λ j. record { cell = x.table; job = Computes x.call.call.init.outcome; polled = (ap is_some of ∙ sym (ap parts.is_polled new_stage.1)) j }
+    new_caller = λ j. record { cell = x.table; errand = Computes x.call.call.init.outcome; polled = (ap is_some of ∙ sym (ap parts.is_polled new_stage.1)) j }
 
     module _ (n : ℕ) (now : get e.current x.key ≡ Some n) (r : Round) (there : get e.rounds n ≡ Some r) (idle : runs r.running f ≡ false) where
       abbrev se1 : Entry

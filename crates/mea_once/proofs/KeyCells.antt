@@ -14,9 +14,9 @@ use Rattle.mea_once_core.specs.declared.cell_stage.CellStage.{CellStage}
 use Rattle.mea_once_core.specs.declared.cell_stage.CellStage.TheVariants.{New, Queued, Running, Done}
 use Rattle.mea_once_core.specs.declared.cell_turn.CellTurn.{CellTurn}
 use Rattle.mea_once_core.specs.declared.cell_turn.CellTurn.TheVariants as turns
-use Rattle.mea_once_model.specs.declared.job.Initialiser.{Initialiser}
-use Rattle.mea_once_model.specs.declared.job.Initialiser.TheVariants.{Unsettled, Gives, Fails}
-use Rattle.mea_once_model.specs.declared.job.Job.TheVariants.{Computes}
+use Rattle.mea_once_model.specs.declared.errand.Initialiser.{Initialiser}
+use Rattle.mea_once_model.specs.declared.errand.Initialiser.TheVariants.{Unsettled, Gives, Fails}
+use Rattle.mea_once_model.specs.declared.errand.Errand.TheVariants.{Computes}
 use Rattle.mea_once_model.specs.Cells as model
 use Rattle.mea_once_model.specs.Cells.{Step}
 use Rattle.mea_once.specs.declared.scripted.Scripted.{Scripted}
@@ -34,7 +34,7 @@ use Rattle.mea_once.proofs.Steps.{Makes, polls_make, ends_make}
 
 -- a caller of a round's cell: its initialiser comes to this, and it is at this stage
 abbrev pub caller_at : ℕ → Initialiser → CellStage → FutureEntry
-caller_at o r t = record { cell = o; job = Computes r; stage = t; wait = None }
+caller_at o r t = record { cell = o; errand = Computes r; stage = t; wait = None }
 
 -- a round's cell as one of a hall, with so many callers
 abbrev pub cell_of : CoreCell ℕ NamedWaker → Option NamedWaker → ℕ → KeptCell

@@ -15,7 +15,7 @@ use Rattle.mea_once_core.specs.Table.{entry_at}
 use Rattle.mea_once_core.specs.Keyed.{IsSameKeyed, Discards}
 use Rattle.mea_once_core.specs.Waiting.{waiting_at, waiting_in}
 use Rattle.mea_once_core.proofs.Waits.{waiting-changes, at-most}
-use Rattle.mea_once_model.specs.declared.job.Initialiser.{Initialiser}
+use Rattle.mea_once_model.specs.declared.errand.Initialiser.{Initialiser}
 use Rattle.mea_once_model.specs.Tables as tables
 use Rattle.mea_once_model.specs.Tables.{without_key}
 use Rattle.mea_once.specs.declared.key_future.KeyFuture.{KeyFuture}

@@ -13,7 +13,7 @@ use Rattle.mea_once_core.specs.Table.{entry_at, is_last, HasRoom}
 use Rattle.mea_once_core.specs.Keyed.{MayPollKey, MayPollAt, MayEndKey, MayEndAt, EndsAt, EndsCaller, without_caller}
 use Rattle.mea_once_core.specs.Waiting.{waiting_at}
 use Rattle.mea_once_core.proofs.Tables.{and-false, and-true}
-use Rattle.mea_once_model.specs.declared.job.Job.TheVariants.{Computes}
+use Rattle.mea_once_model.specs.declared.errand.Errand.TheVariants.{Computes}
 use Rattle.mea_once_model.specs.Cells as cells
 use Rattle.mea_once_model.specs.Cells.{Step}
 use Rattle.mea_once_model.specs.Tables as tables
@@ -276,5 +276,5 @@ module _ (once : Bool) (e : KeptTable) (f : ℕ) (x : KeyFuture) (i : ℕ) (s : 
         subst (λ new. SteppedTable once e s.fs i f x.table None (λ h. tables.end once h f (key_future_seen x) (Some (table_seen e))) answer_is.Done new before after) (sym hands.entry)
         (did_steps once e f x i s n m0 r0 se0 e.current num0 start0 None (rested_table end_table) run' k'.wakes 0 its_step answer_is.Done as_left (λ h. tables.end once h f (key_future_seen x) (Some (table_seen e)))
         (λ h tables_there count. ap (tables.end_in once h f (key_future_seen x) (table_seen e)) of ∙ ap (tables.end_at once h f (key_future_seen x) (table_seen e) n) (seen_round e n r0 se0 (its_there once e f x i s n of) (s.kept.rounds n r0 (its_there once e f x i s n of)).there)
-        ∙ (λ j. applied h f x.table (tables.at_round once (key_future_seen x) n (count n j) (table_seen e) (cells.end f (record { cell = x.table; job = Computes x.call.call.init.outcome; polled = (ap is_some of ∙ sym (its_call once e f x i s (Some n) of).4) j }) (parts.cell_seen (kept_cell se0.cell r0))))))
+        ∙ (λ j. applied h f x.table (tables.at_round once (key_future_seen x) n (count n j) (table_seen e) (cells.end f (record { cell = x.table; errand = Computes x.call.call.init.outcome; polled = (ap is_some of ∙ sym (its_call once e f x i s (Some n) of).4) j }) (parts.cell_seen (kept_cell se0.cell r0))))))
         before after (hands.wakers ∙ (λ j. before.wakers ++ woken_in (end_keyed j).wakes)) (omega (arith, hands.counted, all)))

@@ -11,8 +11,8 @@ use Rattle.mea_base.proofs.Maps.{get-there, get-other}
 use Rattle.mea_by_name.specs.declared.named_waker.NamedWaker.{NamedWaker}
 use Rattle.mea_once_core.specs.Cell.{rested}
 use Rattle.mea_once_core.specs.Links.{Changes}
-use Rattle.mea_once_model.specs.declared.job.Initialiser.{Initialiser}
-use Rattle.mea_once_model.specs.declared.job.Job.TheVariants.{Computes}
+use Rattle.mea_once_model.specs.declared.errand.Initialiser.{Initialiser}
+use Rattle.mea_once_model.specs.declared.errand.Errand.TheVariants.{Computes}
 use Rattle.mea_once_model.specs.Cells as cells
 use Rattle.mea_once_model.specs.Cells.{Cell, CellFuture, Step}
 use Rattle.mea_once_model.specs.Tables as tables
@@ -53,7 +53,7 @@ module _ (once : Bool) (e : KeptTable) (f : ℕ) (x : KeyFuture) (i : ℕ) (s : 
   fits0 = its_call once e f x i s (Some n) of
 
   its_caller : tables.caller (key_future_seen x) ≡ future_seen (as_caller x)
-  its_caller = λ j. record { cell = x.table; job = Computes x.call.call.init.outcome; polled = (ap is_some of ∙ sym fits0.4) j }
+  its_caller = λ j. record { cell = x.table; errand = Computes x.call.call.init.outcome; polled = (ap is_some of ∙ sym fits0.4) j }
 
   -- ---- its round has its cell still, and another initialiser's waker or none
   module _ (run : Option NamedWaker) (y : KeyFuture) (of_y : y.round ≡ Some n) (stage_y : y.call.stage ≡ x.call.stage) (key_y : y.key ≡ x.key) (polled_y : y.call.call.stage ≡ x.call.call.stage) (table_y : y.table ≡ x.table) (act : CellFuture → Cell → Step) (answer : Answer) (before after : Waking ℕ)

@@ -18,7 +18,7 @@ use Rattle.mea_once_core.specs.declared.init_call.InitCall.{InitCall}
 use Rattle.mea_once_core.specs.declared.key_call.KeyStage.{KeyStage}
 use Rattle.mea_once_core.specs.declared.key_call.KeyStage.TheVariants as key_stages
 use Rattle.mea_once_core.specs.declared.cell_stage.CellStage.TheVariants.{Done}
-use Rattle.mea_once_model.specs.declared.job.Job.TheVariants.{Computes}
+use Rattle.mea_once_model.specs.declared.errand.Errand.TheVariants.{Computes}
 use Rattle.mea_once_model.specs.Cells as cells
 use Rattle.mea_once_model.specs.Cells.{Cell, CellFuture, Step}
 use Rattle.mea_once_model.specs.Tables as tables
@@ -158,7 +158,7 @@ module _ (once : Bool) (e : KeptTable) (f w : ℕ) (x : KeyFuture) (i : ℕ) (s 
     }
       where
         good : AreKept false (cell_of (rested c) run r.callers) (parts.turned_to members f (Some (as_caller (record x2 { round = Some n }))))
-        good = subst (λ (z : FutureEntry). AreKept false (cell_of (rested c) run r.callers) (parts.turned_to members f (Some z))) (λ j. record { cell = x.table; job = Computes (sym init j).outcome; stage = call'.stage; wait = None })
+        good = subst (λ (z : FutureEntry). AreKept false (cell_of (rested c) run r.callers) (parts.turned_to members f (Some z))) (λ j. record { cell = x.table; errand = Computes (sym init j).outcome; stage = call'.stage; wait = None })
             (rests_kept (kept_cell se.cell r) members i f x.table 1 answer_is.Pending (Some (caller_at x.table x.call.call.init.outcome call'.stage)) cell_step c run r.callers makes)
 
         rounds : Elsewhere e.rounds (insert rounds1 n (stayed r x2 k)) n

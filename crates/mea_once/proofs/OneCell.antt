@@ -27,8 +27,8 @@ use Rattle.mea_once_core.specs.Permit.{MayPoll, MayEnd, HoldsAs, held_at, passed
 use Rattle.mea_once_core.specs.declared.cell_stage.CellStage.{CellStage}
 use Rattle.mea_once_core.specs.declared.cell_stage.CellStage.TheVariants.{New, Queued, Running, Done}
 use Rattle.mea_once_core.proofs.Permits.{waits_behind, first_granted}
-use Rattle.mea_once_model.specs.declared.job.Job.{Job}
-use Rattle.mea_once_model.specs.declared.job.Job.TheVariants.{Calls, Computes, Alone, Sets, Inserts, Awaits}
+use Rattle.mea_once_model.specs.declared.errand.Errand.{Errand}
+use Rattle.mea_once_model.specs.declared.errand.Errand.TheVariants.{Calls, Computes, Alone, Sets, Inserts, Awaits}
 use Rattle.mea_once_model.specs.Cells as model
 use Rattle.mea_once_model.specs.Cells.{Cell, is_alone, passed, woken_next}
 use Rattle.mea_once.specs.declared.future_entry.FutureEntry.{FutureEntry}
@@ -156,7 +156,7 @@ module _ (once : Bool) (e : KeptCell) (fs : Names FutureEntry) (tied : Tied once
   may_at Done is fits = absurd fits
 
   pub may_poll : MayPoll e.cell.permit x.stage
-  may_poll = may_at x.stage refl (fits_any (is_caller x.job) x.stage (tied.each f x there).stage)
+  may_poll = may_at x.stage refl (fits_any (is_caller x.errand) x.stage (tied.each f x there).stage)
 
   end_at : (s : CellStage) → MayPoll e.cell.permit s → MayEnd e.cell.permit s
   end_at New may = tt
@@ -170,11 +170,11 @@ module _ (once : Bool) (e : KeptCell) (fs : Names FutureEntry) (tied : Tied once
   pub some_futures : 1 ≤ e.futures
   some_futures = omega (arith, tied.futures, len-some fs f x there)
 
-  pub some_alone : cond (is_alone x.job) 1 0 ≤ e.alone
-  some_alone = omega (arith, tied.alone, total-has (λ k (x : FutureEntry). cond (is_alone x.job) 1 0) fs f x there)
+  pub some_alone : cond (is_alone x.errand) 1 0 ≤ e.alone
+  some_alone = omega (arith, tied.alone, total-has (λ k (x : FutureEntry). cond (is_alone x.errand) 1 0) fs f x there)
 
   -- who does not wait until the cell is full is not among those who do
-  pub apart : model.is_alone x.job ≡ true → (g : ℕ) (y : FutureEntry) → get fs g ≡ Some y → f ≡ g
+  pub apart : model.is_alone x.errand ≡ true → (g : ℕ) (y : FutureEntry) → get fs g ≡ Some y → f ≡ g
   apart alone g y is = tied.single f g x y there is alone
 
   -- the waker that is kept is of one who may run
@@ -188,21 +188,21 @@ module _ (once : Bool) (e : KeptCell) (fs : Names FutureEntry) (tied : Tied once
           let same : it.0 ≡ x = inside (sym it.1 ∙ ap (get fs) (eqb-true k.future f run) ∙ there) in
           subst MayRun same it.2
 
-  pub runs_not : is_alone x.job ≡ false → is_running x ≡ false → runs e.running f ≡ false
+  pub runs_not : is_alone x.errand ≡ false → is_running x ≡ false → runs e.running f ≡ false
   runs_not shares none = at (runs e.running f) refl
     where
       at : (b : Bool) → runs e.running f ≡ b → runs e.running f ≡ false
       at false idle = idle
-      at true run = absurd (let may : cond (is_alone x.job) true (is_running x) ≡ true = runs_may run in let no : cond (is_alone x.job) true (is_running x) ≡ false = ap (λ b. cond b true (is_running x)) shares ∙ none in cc)
+      at true run = absurd (let may : cond (is_alone x.errand) true (is_running x) ≡ true = runs_may run in let no : cond (is_alone x.errand) true (is_running x) ≡ false = ap (λ b. cond b true (is_running x)) shares ∙ none in cc)
 
   -- ---- it changes its stage
-  module _ (c : NamedCell) (s : CellStage) (stage : StageFits (is_caller x.job) s) (run : runs_at x.stage ≡ true → runs_at s ≡ true) (linked : Linked c.permit.queue c.permit.granted (insert acquires f (acquire_at s)))
+  module _ (c : NamedCell) (s : CellStage) (stage : StageFits (is_caller x.errand) s) (run : runs_at x.stage ≡ true → runs_at s ≡ true) (linked : Linked c.permit.queue c.permit.granted (insert acquires f (acquire_at s)))
       (held : HoldsAs e.cell.permit x.stage c.permit s) (waits : c.waits ≡ e.cell.waits) where
     abbrev pub turned_one : FutureEntry
     turned_one = record x { stage = s }
 
-    before : (g : ℕ) (z : FutureEntry) → get (insert fs f turned_one) g ≡ Some z → (y : FutureEntry) × (get fs g ≡ Some y) × (y.job ≡ z.job)
-    before g z = by_put fs f turned_one (λ g o. o ≡ Some z → (y : FutureEntry) × (get fs g ≡ Some y) × (y.job ≡ z.job)) (λ is. (x, there, ap (λ (x : FutureEntry). x.job) (inside is))) (λ g apart is. (z, is, refl)) g
+    before : (g : ℕ) (z : FutureEntry) → get (insert fs f turned_one) g ≡ Some z → (y : FutureEntry) × (get fs g ≡ Some y) × (y.errand ≡ z.errand)
+    before g z = by_put fs f turned_one (λ g o. o ≡ Some z → (y : FutureEntry) × (get fs g ≡ Some y) × (y.errand ≡ z.errand)) (λ is. (x, there, ap (λ (x : FutureEntry). x.errand) (inside is))) (λ g apart is. (z, is, refl)) g
 
     may_still : (alone : Bool) → cond alone true (runs_at x.stage) ≡ true → cond alone true (runs_at s) ≡ true
     may_still true is = refl
@@ -216,18 +216,18 @@ module _ (once : Bool) (e : KeptCell) (fs : Names FutureEntry) (tied : Tied once
           omega (arith, tied.held, held, held_is x.stage, held_is s, had, count-put fs f is_running turned_one);
       runner = λ k is. let it = tied.runner k is in
           by_put fs f turned_one (λ g o. (z : FutureEntry) → get fs g ≡ Some z → MayRun z → (v : FutureEntry) × (o ≡ Some v) × MayRun v)
-          (λ z is may. (turned_one, refl, may_still (is_alone x.job) (subst MayRun (inside (sym is ∙ there)) may))) (λ g apart z is may. (z, is, may)) k.future it.0 it.1 it.2;
+          (λ z is may. (turned_one, refl, may_still (is_alone x.errand) (subst MayRun (inside (sym is ∙ there)) may))) (λ g apart z is may. (z, is, may)) k.future it.0 it.1 it.2;
       each = by_put fs f turned_one (λ g o. (z : FutureEntry) → o ≡ Some z → IsFuture once c.waits g z)
           (λ z is. subst (IsFuture once c.waits f) (inside is) (rw waits (let it = tied.each f x there in record { fits = it.fits; stage = stage; slot = it.slot; place = it.place })))
           (λ g apart z is. rw waits (tied.each g z is));
       single = λ g j y z one two alone. let first = before g y one in let second = before j z two in tied.single g j first.0 second.0 first.1 second.1 (ap is_alone first.2 ∙ alone);
       futures = omega (arith, tied.futures, len-over fs f turned_one x there);
-      alone = omega (arith, tied.alone, count-over fs f (λ (x : FutureEntry). is_alone x.job) turned_one x there refl);
+      alone = omega (arith, tied.alone, count-over fs f (λ (x : FutureEntry). is_alone x.errand) turned_one x there refl);
     }
 
   -- ---- it is gone, and its initialiser keeps no waker
   pub departs : (c : NamedCell) → Linked c.permit.queue c.permit.granted (remove acquires f) → held_of c.permit + cond (is_running x) 1 0 ≡ held_of e.cell.permit
-      → ((g : ℕ) (y : FutureEntry) → get fs g ≡ Some y → SlotIs c.waits g y.wait) → Tied once (finished (stopped (record e { cell = c }) f) x.job) (remove fs f)
+      → ((g : ℕ) (y : FutureEntry) → get fs g ≡ Some y → SlotIs c.waits g y.wait) → Tied once (finished (stopped (record e { cell = c }) f) x.errand) (remove fs f)
   departs c linked held slots = record {
     linked = rw (seen-remove acquire_of fs f) linked;
     held = omega (arith, tied.held, held, count-gone fs f is_running x there);
@@ -235,7 +235,7 @@ module _ (once : Bool) (e : KeptCell) (fs : Names FutureEntry) (tied : Tied once
     each = λ g y is. let had = removed_there fs f g y is in let it = tied.each g y had in record { fits = it.fits; stage = it.stage; slot = slots g y had; place = it.place };
     single = λ g j y z one two alone. tied.single g j y z (removed_there fs f g y one) (removed_there fs f j z two) alone;
     futures = omega (arith, tied.futures, len-some fs f x there, len-gone fs f x there);
-    alone = omega (arith, tied.alone, count-gone fs f (λ (x : FutureEntry). is_alone x.job) x there);
+    alone = omega (arith, tied.alone, count-gone fs f (λ (x : FutureEntry). is_alone x.errand) x there);
   }
     where
       kept : (r : Option NamedWaker) → e.running ≡ r → (k : NamedWaker) → cond (runs r f) None r ≡ Some k → (y : FutureEntry) × (get (remove fs f) k.future ≡ Some y) × MayRun y
@@ -265,7 +265,7 @@ module _ (once : Bool) (e : KeptCell) (fs : Names FutureEntry) (tied : Tied once
   pub nobody_runs : runs e.running f ≡ false → MayRun x → held_of e.cell.permit ≤ 1 → e.running ≡ None
   nobody_runs out may few = at e.running refl
     where
-      both_run : (k : NamedWaker) → (k.future ≡ f → ⊥) → (z : FutureEntry) → get fs k.future ≡ Some z → (a b : Bool) → is_alone x.job ≡ a → is_alone z.job ≡ b → cond a true (is_running x) ≡ true → cond b true (is_running z) ≡ true → ⊥
+      both_run : (k : NamedWaker) → (k.future ≡ f → ⊥) → (z : FutureEntry) → get fs k.future ≡ Some z → (a b : Bool) → is_alone x.errand ≡ a → is_alone z.errand ≡ b → cond a true (is_running x) ≡ true → cond b true (is_running z) ≡ true → ⊥
       both_run k other z is true b alone_x alone_z run_x run_z = other (sym (tied.single f k.future x z there is alone_x))
       both_run k other z is false true alone_x alone_z run_x run_z = other (tied.single k.future f z x is there alone_z)
       both_run k other z is false false alone_x alone_z run_x run_z =
@@ -278,7 +278,7 @@ module _ (once : Bool) (e : KeptCell) (fs : Names FutureEntry) (tied : Tied once
       at None is = is
       at (Some k) is =
           let it = tied.runner k is in
-          absurd (both_run k (λ same. absurd (let yes : runs e.running f ≡ true = ap (λ r. runs r f) is ∙ eq-eqb k.future f same in cc)) it.0 it.1 (is_alone x.job) (is_alone it.0.job) refl refl may it.2)
+          absurd (both_run k (λ same. absurd (let yes : runs e.running f ≡ true = ap (λ r. runs r f) is ∙ eq-eqb k.future f same in cc)) it.0 it.1 (is_alone x.errand) (is_alone it.0.errand) refl refl may it.2)
 
 -- ---- what is granted does not wait
 pub not_waiting : (s : Core NamedWaker) → IsOnePermit s → (n d : ℕ) → get s.granted n ≡ Some d → waiting s.queue n ≡ None
@@ -295,8 +295,8 @@ pub held_few : (s : Core NamedWaker) → IsOnePermit s → held_of s ≤ 1
 held_few s is = omega (arith, is.total, is.one)
 
 -- ---- a future is made
-pub begins : (once : Bool) (e : KeptCell) (fs : Names FutureEntry) (f : ℕ) (x : FutureEntry) → Tied once e fs → get fs f ≡ None → fits once x.job ≡ true → x.stage ≡ New → x.wait ≡ None → IsAbsent e.cell.waits.wakers f
-    → (is_alone x.job ≡ true → e.futures ≡ 0) → (is_alone x.job ≡ false → e.alone ≡ 0) → Tied once (begun e x.job) (insert fs f x)
+pub begins : (once : Bool) (e : KeptCell) (fs : Names FutureEntry) (f : ℕ) (x : FutureEntry) → Tied once e fs → get fs f ≡ None → fits once x.errand ≡ true → x.stage ≡ New → x.wait ≡ None → IsAbsent e.cell.waits.wakers f
+    → (is_alone x.errand ≡ true → e.futures ≡ 0) → (is_alone x.errand ≡ false → e.alone ≡ 0) → Tied once (begun e x.errand) (insert fs f x)
 begins once e fs f x tied none fit new unplaced absent whole shared =
     let no_turn : ◌≡◌ {A = ℕ} (cond (is_running x) 1 0) 0 = ap (λ s. cond (runs_at s) 1 0) new in
     record {
@@ -306,11 +306,11 @@ begins once e fs f x tied none fit new unplaced absent whole shared =
       runner = λ k is. let it = tied.runner k is in
           by_put fs f x (λ g o. (z : FutureEntry) → get fs g ≡ Some z → MayRun z → (v : FutureEntry) × (o ≡ Some v) × MayRun v) (λ z is may. absurd (cc)) (λ g apart z is may. (z, is, may)) k.future it.0 it.1 it.2;
       each = by_put fs f x (λ g o. (z : FutureEntry) → o ≡ Some z → IsFuture once e.cell.waits g z)
-          (λ z is. subst (IsFuture once e.cell.waits f) (inside is) (record { fits = fit; stage = subst (StageFits (is_caller x.job)) (sym new) (new_fits (is_caller x.job)); slot = subst (SlotIs e.cell.waits f) (sym unplaced) (record { given = refl; stands = λ h. absurd (cc); absent = λ h. absent }); place = λ h. unplaced }))
+          (λ z is. subst (IsFuture once e.cell.waits f) (inside is) (record { fits = fit; stage = subst (StageFits (is_caller x.errand)) (sym new) (new_fits (is_caller x.errand)); slot = subst (SlotIs e.cell.waits f) (sym unplaced) (record { given = refl; stands = λ h. absurd (cc); absent = λ h. absent }); place = λ h. unplaced }))
           (λ g apart z is. tied.each g z is);
       single = λ g j y z one two alone. pairs g j y z one two alone;
       futures = omega (arith, tied.futures, len-new fs f x none);
-      alone = omega (arith, tied.alone, count-new fs f (λ (x : FutureEntry). is_alone x.job) x none);
+      alone = omega (arith, tied.alone, count-new fs f (λ (x : FutureEntry). is_alone x.errand) x none);
     }
   where
     new_fits : (b : Bool) → StageFits b New
@@ -320,19 +320,19 @@ begins once e fs f x tied none fit new unplaced absent whole shared =
     nobody : e.futures ≡ 0 → (g : ℕ) (y : FutureEntry) → get fs g ≡ Some y → ⊥
     nobody empty g y is = absurd (omega (arith, tied.futures, empty, len-some fs g y is))
 
-    none_alone : e.alone ≡ 0 → (g : ℕ) (y : FutureEntry) → get fs g ≡ Some y → is_alone y.job ≡ true → ⊥
+    none_alone : e.alone ≡ 0 → (g : ℕ) (y : FutureEntry) → get fs g ≡ Some y → is_alone y.errand ≡ true → ⊥
     none_alone empty g y is alone =
-        let one : ◌≡◌ {A = ℕ} (cond (is_alone y.job) 1 0) 1 = ap (λ b. cond b 1 0) alone in
-        absurd (omega (arith, tied.alone, empty, one, total-has (λ k (x : FutureEntry). cond (is_alone x.job) 1 0) fs g y is))
+        let one : ◌≡◌ {A = ℕ} (cond (is_alone y.errand) 1 0) 1 = ap (λ b. cond b 1 0) alone in
+        absurd (omega (arith, tied.alone, empty, one, total-has (λ k (x : FutureEntry). cond (is_alone x.errand) 1 0) fs g y is))
 
-    old_new : (b : Bool) → is_alone x.job ≡ b → (g : ℕ) (y : FutureEntry) → get fs g ≡ Some y → is_alone y.job ≡ true → f ≡ g
+    old_new : (b : Bool) → is_alone x.errand ≡ b → (g : ℕ) (y : FutureEntry) → get fs g ≡ Some y → is_alone y.errand ≡ true → f ≡ g
     old_new true alone g y is mine = absurd (nobody (whole alone) g y is)
     old_new false shares g y is mine = absurd (none_alone (shared shares) g y is mine)
 
-    pairs : (g j : ℕ) (y z : FutureEntry) → get (insert fs f x) g ≡ Some y → get (insert fs f x) j ≡ Some z → is_alone y.job ≡ true → g ≡ j
+    pairs : (g j : ℕ) (y z : FutureEntry) → get (insert fs f x) g ≡ Some y → get (insert fs f x) j ≡ Some z → is_alone y.errand ≡ true → g ≡ j
     pairs g j y z one two alone = by_put fs f x (λ g o. o ≡ Some y → g ≡ j)
-        (λ is. by_put fs f x (λ j p. p ≡ Some z → f ≡ j) (λ it. refl) (λ j apart it. absurd (nobody (whole (ap (λ (x : FutureEntry). is_alone x.job) (inside is) ∙ alone)) j z it)) j two)
-        (λ g apart is. by_put fs f x (λ j p. p ≡ Some z → g ≡ j) (λ it. sym (old_new (is_alone x.job) refl g y is alone)) (λ j other it. tied.single g j y z is it alone) j two) g one
+        (λ is. by_put fs f x (λ j p. p ≡ Some z → f ≡ j) (λ it. refl) (λ j apart it. absurd (nobody (whole (ap (λ (x : FutureEntry). is_alone x.errand) (inside is) ∙ alone)) j z it)) j two)
+        (λ g apart is. by_put fs f x (λ j p. p ≡ Some z → g ≡ j) (λ it. sym (old_new (is_alone x.errand) refl g y is alone)) (λ j other it. tied.single g j y z is it alone) j two) g one
 
 -- ---- a cell that has no future is idle
 entries_empty : entries (empty {X = ℕ} {R = nat_cmp}) ≡ []
@@ -393,11 +393,11 @@ new_tied once c v new = record {
   each = λ f x there. absurd (nothing_at FutureEntry f x there);
   single = λ f g x y there. absurd (nothing_at FutureEntry f x there);
   futures = omega (arith, len-empty nat_cmp FutureEntry);
-  alone = omega (arith, total-empty (λ k (x : FutureEntry). cond (is_alone x.job) 1 0));
+  alone = omega (arith, total-empty (λ k (x : FutureEntry). cond (is_alone x.errand) 1 0));
 }
 
 -- who neither waits for a call that runs once nor uses its cell alone asks for its turn
-pub asks_turn : (once : Bool) (j : Job) → fits once j ≡ true → (if once then is_wait j else is_alone j) ≡ false → is_caller j ≡ true
+pub asks_turn : (once : Bool) (j : Errand) → fits once j ≡ true → (if once then is_wait j else is_alone j) ≡ false → is_caller j ≡ true
 asks_turn once (Calls q) fit other = refl
 asks_turn once (Computes q) fit other = refl
 asks_turn true (Alone q) fit other = absurd (let no : false ≡ true = fit in cc)

@@ -24,10 +24,10 @@ use Rattle.mea_cores_by_name.proofs.Linking.{linked_gone}
 use Rattle.mea_cores_by_name.proofs.Sets.{registered_names, registered_links}
 use Rattle.mea_once_core.specs.declared.cell_stage.CellStage.{CellStage}
 use Rattle.mea_once_core.specs.declared.cell_stage.CellStage.TheVariants.{New, Queued, Running, Done}
-use Rattle.mea_once_model.specs.declared.job.Initialiser.{Initialiser}
-use Rattle.mea_once_model.specs.declared.job.Initialiser.TheVariants.{Unsettled, Gives, Fails}
-use Rattle.mea_once_model.specs.declared.job.Job.{Job}
-use Rattle.mea_once_model.specs.declared.job.Job.TheVariants.{Calls, Computes, Alone, Sets, Inserts, Awaits}
+use Rattle.mea_once_model.specs.declared.errand.Initialiser.{Initialiser}
+use Rattle.mea_once_model.specs.declared.errand.Initialiser.TheVariants.{Unsettled, Gives, Fails}
+use Rattle.mea_once_model.specs.declared.errand.Errand.{Errand}
+use Rattle.mea_once_model.specs.declared.errand.Errand.TheVariants.{Calls, Computes, Alone, Sets, Inserts, Awaits}
 use Rattle.mea_once_model.specs.Cells as model
 use Rattle.mea_once_model.specs.Cells.{Cell, Step, init_of, is_alone, settled}
 use Rattle.mea_once.specs.declared.future_entry.FutureEntry.{FutureEntry}
@@ -52,14 +52,14 @@ module _ (once : Bool) (e : KeptCell) (f : ℕ) (x : FutureEntry) (s : Stands on
   runner_out : MayRun x → waits (cell_seen e).queue f ≡ false
   runner_out may = at x.stage refl
     where
-      not_queued : (n : ℕ) → x.stage ≡ Queued n → (b : Bool) → is_caller x.job ≡ b → StageFits b (Queued n) → ⊥
-      not_queued n is true caller is_it = absurd (let shares = caller_shares once e f x s x.job caller in let idle : is_running x ≡ false = ap runs_at is in
-          let no_turn : cond (is_alone x.job) true (is_running x) ≡ false = ap (λ b. cond b true (is_running x)) shares ∙ idle in cc)
+      not_queued : (n : ℕ) → x.stage ≡ Queued n → (b : Bool) → is_caller x.errand ≡ b → StageFits b (Queued n) → ⊥
+      not_queued n is true caller is_it = absurd (let shares = caller_shares once e f x s x.errand caller in let idle : is_running x ≡ false = ap runs_at is in
+          let no_turn : cond (is_alone x.errand) true (is_running x) ≡ false = ap (λ b. cond b true (is_running x)) shares ∙ idle in cc)
       not_queued n is false caller is_it = is_it
 
       at : (t : CellStage) → x.stage ≡ t → waits (cell_seen e).queue f ≡ false
       at New is = out_of_queue once e f x s New is (λ n same. absurd (cc))
-      at (Queued n) is = absurd (not_queued n is (is_caller x.job) refl (subst (StageFits (is_caller x.job)) is ((s.kept.tied.each f x s.there).stage)))
+      at (Queued n) is = absurd (not_queued n is (is_caller x.errand) refl (subst (StageFits (is_caller x.errand)) is ((s.kept.tied.each f x s.there).stage)))
       at Running is = out_of_queue once e f x s Running is (λ n same. absurd (cc))
       at Done is = out_of_queue once e f x s Done is (λ n same. absurd (cc))
 
@@ -97,7 +97,7 @@ module _ (once : Bool) (e : KeptCell) (f : ℕ) (x : FutureEntry) (s : Stands on
     | false ↦ refl
   ]
 
-  settled_alone : (r : Initialiser) (j : Job) → is_alone (settled r j) ≡ is_alone j
+  settled_alone : (r : Initialiser) (j : Errand) → is_alone (settled r j) ≡ is_alone j
   settled_alone r (Calls i) = refl
   settled_alone r (Computes i) = refl
   settled_alone r (Alone i) = refl
@@ -105,7 +105,7 @@ module _ (once : Bool) (e : KeptCell) (f : ℕ) (x : FutureEntry) (s : Stands on
   settled_alone r (Inserts v) = refl
   settled_alone r Awaits = refl
 
-  settled_caller : (r : Initialiser) (j : Job) → is_caller (settled r j) ≡ is_caller j
+  settled_caller : (r : Initialiser) (j : Errand) → is_caller (settled r j) ≡ is_caller j
   settled_caller r (Calls i) = refl
   settled_caller r (Computes i) = refl
   settled_caller r (Alone i) = refl
@@ -113,7 +113,7 @@ module _ (once : Bool) (e : KeptCell) (f : ℕ) (x : FutureEntry) (s : Stands on
   settled_caller r (Inserts v) = refl
   settled_caller r Awaits = refl
 
-  settled_wait : (r : Initialiser) (j : Job) → is_wait (settled r j) ≡ is_wait j
+  settled_wait : (r : Initialiser) (j : Errand) → is_wait (settled r j) ≡ is_wait j
   settled_wait r (Calls i) = refl
   settled_wait r (Computes i) = refl
   settled_wait r (Alone i) = refl
@@ -121,13 +121,13 @@ module _ (once : Bool) (e : KeptCell) (f : ℕ) (x : FutureEntry) (s : Stands on
   settled_wait r (Inserts v) = refl
   settled_wait r Awaits = refl
 
-  module _ (r : Initialiser) (fit : fits once (settled r x.job) ≡ true) where
+  module _ (r : Initialiser) (fit : fits once (settled r x.errand) ≡ true) where
     abbrev y : FutureEntry
-    y = record x { job = settled r x.job }
+    y = record x { errand = settled r x.errand }
 
-    before_it : (g : ℕ) (z : FutureEntry) → get (insert s.fs f y) g ≡ Some z → (v : FutureEntry) × (get s.fs g ≡ Some v) × (is_alone v.job ≡ is_alone z.job)
-    before_it g z = by_put s.fs f y (λ g o. o ≡ Some z → (v : FutureEntry) × (get s.fs g ≡ Some v) × (is_alone v.job ≡ is_alone z.job))
-        (λ is. (x, s.there, sym (settled_alone r x.job) ∙ ap (λ (x : FutureEntry). is_alone x.job) (inside is))) (λ g apart is. (z, is, refl)) g
+    before_it : (g : ℕ) (z : FutureEntry) → get (insert s.fs f y) g ≡ Some z → (v : FutureEntry) × (get s.fs g ≡ Some v) × (is_alone v.errand ≡ is_alone z.errand)
+    before_it g z = by_put s.fs f y (λ g o. o ≡ Some z → (v : FutureEntry) × (get s.fs g ≡ Some v) × (is_alone v.errand ≡ is_alone z.errand))
+        (λ is. (x, s.there, sym (settled_alone r x.errand) ∙ ap (λ (x : FutureEntry). is_alone x.errand) (inside is))) (λ g apart is. (z, is, refl)) g
 
     kept_runner : (k : NamedWaker) (q : Option NamedWaker) → e.running ≡ q → cond (runs q f) None q ≡ Some k → e.running ≡ Some k
     kept_runner k None is it = absurd (cc)
@@ -143,14 +143,14 @@ module _ (once : Bool) (e : KeptCell) (f : ℕ) (x : FutureEntry) (s : Stands on
       held = omega (arith, s.kept.tied.held, count-over s.fs f is_running y x s.there refl);
       runner = λ k is. let it = s.kept.tied.runner k (kept_runner k e.running refl is) in
           by_put s.fs f y (λ g o. (z : FutureEntry) → get s.fs g ≡ Some z → MayRun z → (v : FutureEntry) × (o ≡ Some v) × MayRun v)
-          (λ z is may. (y, refl, ap (λ b. cond b true (is_running x)) (settled_alone r x.job) ∙ subst MayRun (inside (sym is ∙ s.there)) may)) (λ g apart z is may. (z, is, may)) k.future it.0 it.1 it.2;
+          (λ z is may. (y, refl, ap (λ b. cond b true (is_running x)) (settled_alone r x.errand) ∙ subst MayRun (inside (sym is ∙ s.there)) may)) (λ g apart z is may. (z, is, may)) k.future it.0 it.1 it.2;
       each = by_put s.fs f y (λ g o. (z : FutureEntry) → o ≡ Some z → IsFuture once e.cell.waits g z)
           (λ z is. subst (IsFuture once e.cell.waits f) (inside is) (let it = s.kept.tied.each f x s.there in
-          record { fits = fit; stage = subst (λ b. StageFits b x.stage) (sym (settled_caller r x.job)) it.stage; slot = it.slot; place = λ none. it.place (sym (settled_wait r x.job) ∙ none) }))
+          record { fits = fit; stage = subst (λ b. StageFits b x.stage) (sym (settled_caller r x.errand)) it.stage; slot = it.slot; place = λ none. it.place (sym (settled_wait r x.errand) ∙ none) }))
           (λ g apart z is. s.kept.tied.each g z is);
       single = λ g j a b one two alone. let first = before_it g a one in let second = before_it j b two in s.kept.tied.single g j first.0 second.0 first.1 second.1 (first.2 ∙ alone);
       futures = omega (arith, s.kept.tied.futures, len-over s.fs f y x s.there);
-      alone = omega (arith, s.kept.tied.alone, count-over s.fs f (λ (x : FutureEntry). is_alone x.job) y x s.there (settled_alone r x.job));
+      alone = omega (arith, s.kept.tied.alone, count-over s.fs f (λ (x : FutureEntry). is_alone x.errand) y x s.there (settled_alone r x.errand));
     }
 
     pub settles : (before : Waking ℕ) → keeps e ≤ before.registered → Stepped once e s.fs s.n f x.cell (Some y) (model.settle f r (future_seen x) (cell_seen e)) answers.Done (stopped e f) before (waking e.running f before)
@@ -167,7 +167,7 @@ module _ (once : Bool) (e : KeptCell) (f : ℕ) (x : FutureEntry) (s : Stands on
     }
 
   -- ---- a wait
-  wait_shares : (j : Job) → is_wait j ≡ true → is_alone j ≡ false
+  wait_shares : (j : Errand) → is_wait j ≡ true → is_alone j ≡ false
   wait_shares (Calls r) is = refl
   wait_shares (Computes r) is = refl
   wait_shares (Alone r) is = absurd (cc)
@@ -175,7 +175,7 @@ module _ (once : Bool) (e : KeptCell) (f : ℕ) (x : FutureEntry) (s : Stands on
   wait_shares (Inserts v) is = refl
   wait_shares Awaits is = refl
 
-  wait_asks_not : (j : Job) → is_wait j ≡ true → is_caller j ≡ false
+  wait_asks_not : (j : Errand) → is_wait j ≡ true → is_caller j ≡ false
   wait_asks_not (Calls r) is = absurd (cc)
   wait_asks_not (Computes r) is = absurd (cc)
   wait_asks_not (Alone r) is = refl
@@ -183,7 +183,7 @@ module _ (once : Bool) (e : KeptCell) (f : ℕ) (x : FutureEntry) (s : Stands on
   wait_asks_not (Inserts v) is = absurd (cc)
   wait_asks_not Awaits is = refl
 
-  alone_asks_not : (j : Job) → is_alone j ≡ true → is_caller j ≡ false
+  alone_asks_not : (j : Errand) → is_alone j ≡ true → is_caller j ≡ false
   alone_asks_not (Calls r) is = absurd (cc)
   alone_asks_not (Computes r) is = absurd (cc)
   alone_asks_not (Alone r) is = refl
@@ -191,7 +191,7 @@ module _ (once : Bool) (e : KeptCell) (f : ℕ) (x : FutureEntry) (s : Stands on
   alone_asks_not (Inserts v) is = absurd (cc)
   alone_asks_not Awaits is = absurd (cc)
 
-  alone_waits_not : (j : Job) → is_alone j ≡ true → is_wait j ≡ false
+  alone_waits_not : (j : Errand) → is_alone j ≡ true → is_wait j ≡ false
   alone_waits_not (Calls r) is = refl
   alone_waits_not (Computes r) is = refl
   alone_waits_not (Alone r) is = refl
@@ -200,7 +200,7 @@ module _ (once : Bool) (e : KeptCell) (f : ℕ) (x : FutureEntry) (s : Stands on
   alone_waits_not Awaits is = absurd (cc)
 
   -- who does not ask for a turn is in no stage of it
-  at_first : is_caller x.job ≡ false → x.stage ≡ New
+  at_first : is_caller x.errand ≡ false → x.stage ≡ New
   at_first none = at x.stage refl (subst (λ b. StageFits b x.stage) none ((s.kept.tied.each f x s.there).stage))
     where
       at : (t : CellStage) → x.stage ≡ t → StageFits false t → x.stage ≡ New
@@ -209,17 +209,17 @@ module _ (once : Bool) (e : KeptCell) (f : ℕ) (x : FutureEntry) (s : Stands on
       at Running is it = absurd it
       at Done is it = absurd it
 
-  wait_idle : is_wait x.job ≡ true → runs e.running f ≡ false
-  wait_idle wait = runs_not once e s.fs s.kept.tied f x s.there (wait_shares x.job wait) (ap runs_at (at_first (wait_asks_not x.job wait)))
+  wait_idle : is_wait x.errand ≡ true → runs e.running f ≡ false
+  wait_idle wait = runs_not once e s.fs s.kept.tied f x s.there (wait_shares x.errand wait) (ap runs_at (at_first (wait_asks_not x.errand wait)))
 
-  first_out : is_caller x.job ≡ false → waits (cell_seen e).queue f ≡ false
+  first_out : is_caller x.errand ≡ false → waits (cell_seen e).queue f ≡ false
   first_out none = out_of_queue once e f x s New (at_first none) (λ n same. absurd (cc))
 
   in_nothing : (ks : List NamedWaker) → length ks ≡ 0 → waits (names_of ks) f ≡ false
   in_nothing [] is = refl
   in_nothing (k ∷ ks) is = absurd (omega (arith, is))
 
-  start_wait : (w : ℕ) (j : Job) (c : Cell) → is_wait j ≡ true → model.start_in f w (future_seen x) c j ≡ model.awaits f w (future_seen x) c
+  start_wait : (w : ℕ) (j : Errand) (c : Cell) → is_wait j ≡ true → model.start_in f w (future_seen x) c j ≡ model.awaits f w (future_seen x) c
   start_wait w (Calls r) c is = absurd (cc)
   start_wait w (Computes r) c is = absurd (cc)
   start_wait w (Alone r) c is = absurd (cc)
@@ -227,7 +227,7 @@ module _ (once : Bool) (e : KeptCell) (f : ℕ) (x : FutureEntry) (s : Stands on
   start_wait w (Inserts v) c is = absurd (cc)
   start_wait w Awaits c is = refl
 
-  wait_full : (v : ℕ) (j : Job) → is_wait j ≡ true → model.found_full j v ≡ answers.Ready
+  wait_full : (v : ℕ) (j : Errand) → is_wait j ≡ true → model.found_full j v ≡ answers.Ready
   wait_full v (Calls r) is = refl
   wait_full v (Computes r) is = absurd (cc)
   wait_full v (Alone r) is = absurd (cc)
@@ -242,7 +242,7 @@ module _ (once : Bool) (e : KeptCell) (f : ℕ) (x : FutureEntry) (s : Stands on
   quiet_length : length e.cell.permit.wakes ≡ 0
   quiet_length = ap length s.kept.quiet
 
-  module _ (w : ℕ) (wait : is_wait x.job ≡ true) where
+  module _ (w : ℕ) (wait : is_wait x.errand ≡ true) where
     abbrev k : NamedWaker
     k = record { future = f; waker = w }
 
@@ -250,21 +250,21 @@ module _ (once : Bool) (e : KeptCell) (f : ℕ) (x : FutureEntry) (s : Stands on
     Polls = model.poll f w (future_seen x) (cell_seen e)
 
     not_new : is_polled x.stage ≡ false
-    not_new = ap is_polled (at_first (wait_asks_not x.job wait))
+    not_new = ap is_polled (at_first (wait_asks_not x.errand wait))
 
     in_neither : Polls ≡ (if waits (set_names e.cell.waits) f then model.awaits f w (future_seen x) (cell_seen e) else if is_polled x.stage then model.take_turn f w (future_seen x) (cell_seen e) e.cell.value else model.start f w (future_seen x) (cell_seen e) e.cell.value)
-    in_neither = if_false (waits (cell_seen e).queue f) _ _ (first_out (wait_asks_not x.job wait)) ∙ if_false (waits (runner_of e.running) f) _ _ (runner_waits e.running f ∙ wait_idle wait)
+    in_neither = if_false (waits (cell_seen e).queue f) _ _ (first_out (wait_asks_not x.errand wait)) ∙ if_false (waits (runner_of e.running) f) _ _ (runner_waits e.running f ∙ wait_idle wait)
 
     -- the cell is full
-    waits_over : is_some e.cell.value ≡ true → (is_some e.cell.value ≡ true → length e.cell.waits.wakers ≡ 0) → Makes once e s.fs s.n f x.cell 1 answers.Ready None Polls (finished (stopped e f) x.job)
+    waits_over : is_some e.cell.value ≡ true → (is_some e.cell.value ≡ true → length e.cell.waits.wakers ≡ 0) → Makes once e s.fs s.n f x.cell 1 answers.Ready None Polls (finished (stopped e f) x.errand)
     waits_over full drained =
         let it = value_there e.cell.value full in
         let told : Polls ≡ model.leaves (cell_seen e) answers.Ready [] =
         in_neither ∙ if_false (waits (set_names e.cell.waits) f) _ _ (in_nothing e.cell.waits.wakers (drained full)) ∙ if_false (is_polled x.stage) _ _ not_new ∙ ap (model.start f w (future_seen x) (cell_seen e)) it.1
-        ∙ ap (λ a. model.leaves (cell_seen e) a []) (wait_full it.0 x.job wait) in
+        ∙ ap (λ a. model.leaves (cell_seen e) a []) (wait_full it.0 x.errand wait) in
         rw told (goes once e f x s e.cell 1 (model.leaves (cell_seen e) answers.Ready []) answers.Ready refl refl s.kept.sound
-        (linked_gone e.cell.permit.queue e.cell.permit.granted (seen acquire_of s.fs) s.kept.tied.linked f (unqueued once e s.fs s.kept.tied f x s.there New (at_first (wait_asks_not x.job wait)) (λ n same. absurd (cc))))
-        (let none : ◌≡◌ {A = ℕ} (cond (is_running x) 1 0) 0 = ap (λ s. cond (runs_at s) 1 0) (at_first (wait_asks_not x.job wait)) in omega (arith, none)) (λ g y is. (s.kept.tied.each g y is).slot) s.low
+        (linked_gone e.cell.permit.queue e.cell.permit.granted (seen acquire_of s.fs) s.kept.tied.linked f (unqueued once e s.fs s.kept.tied f x s.there New (at_first (wait_asks_not x.errand wait)) (λ n same. absurd (cc))))
+        (let none : ◌≡◌ {A = ℕ} (cond (is_running x) 1 0) 0 = ap (λ s. cond (runs_at s) 1 0) (at_first (wait_asks_not x.errand wait)) in omega (arith, none)) (λ g y is. (s.kept.tied.each g y is).slot) s.low
         (λ i. record (cell_seen e) { runner = ap (λ b. runner_of (cond b None e.running)) (wait_idle wait) i }) (ap (λ (ks : List NamedWaker). map (λ (k : NamedWaker). k.waker) ks) s.kept.quiet) (omega (arith, quiet_length)))
 
     -- it is not
@@ -287,8 +287,8 @@ module _ (once : Bool) (e : KeptCell) (f : ℕ) (x : FutureEntry) (s : Stands on
       slots : (g : ℕ) (y : FutureEntry) → get (insert s.fs f z) g ≡ Some y → SlotIs c.waits g y.wait
       slots g y is = (links.each g y.wait (ap (λ m. get m g) (sym (seen-insert place_of s.fs f z)) ∙ seen-at place_of (insert s.fs f z) g y is)).1
 
-      before_wait : (g : ℕ) (y : FutureEntry) → get (insert s.fs f z) g ≡ Some y → (v : FutureEntry) × (get s.fs g ≡ Some v) × (v.job ≡ y.job)
-      before_wait g y = by_put s.fs f z (λ g o. o ≡ Some y → (v : FutureEntry) × (get s.fs g ≡ Some v) × (v.job ≡ y.job)) (λ is. (x, s.there, ap (λ (x : FutureEntry). x.job) (inside is))) (λ g apart is. (y, is, refl)) g
+      before_wait : (g : ℕ) (y : FutureEntry) → get (insert s.fs f z) g ≡ Some y → (v : FutureEntry) × (get s.fs g ≡ Some v) × (v.errand ≡ y.errand)
+      before_wait g y = by_put s.fs f z (λ g o. o ≡ Some y → (v : FutureEntry) × (get s.fs g ≡ Some v) × (v.errand ≡ y.errand)) (λ is. (x, s.there, ap (λ (x : FutureEntry). x.errand) (inside is))) (λ g apart is. (y, is, refl)) g
 
       tied_waits : Tied once (record e { cell = c }) (insert s.fs f z)
       tied_waits = record {
@@ -302,7 +302,7 @@ module _ (once : Bool) (e : KeptCell) (f : ℕ) (x : FutureEntry) (s : Stands on
             (λ g apart y is slot. let it = s.kept.tied.each g y is in record { fits = it.fits; stage = it.stage; slot = slot; place = it.place }) g y is (slots g y is);
         single = λ g j a b one two alone. let first = before_wait g a one in let second = before_wait j b two in s.kept.tied.single g j first.0 second.0 first.1 second.1 (ap is_alone first.2 ∙ alone);
         futures = omega (arith, s.kept.tied.futures, len-over s.fs f z x s.there);
-        alone = omega (arith, s.kept.tied.alone, count-over s.fs f (λ (x : FutureEntry). is_alone x.job) z x s.there refl);
+        alone = omega (arith, s.kept.tied.alone, count-over s.fs f (λ (x : FutureEntry). is_alone x.errand) z x s.there refl);
       }
 
       length_names : (ks : List NamedWaker) → length (names_of ks) ≡ length ks
@@ -318,7 +318,7 @@ module _ (once : Bool) (e : KeptCell) (f : ℕ) (x : FutureEntry) (s : Stands on
           let names : set_names c.waits ≡ registering (set_names e.cell.waits) f w = registered_names e.cell.waits (seen place_of s.fs) s.n f w x.wait (all_set once e f x s) its_place in
           let none : e.cell.value ≡ None = empty_is once e f x s e.cell.value empty in
           let later : (if is_polled x.stage then model.take_turn f w (future_seen x) (cell_seen e) e.cell.value else model.start f w (future_seen x) (cell_seen e) e.cell.value) ≡ model.awaits f w (future_seen x) (cell_seen e) =
-          if_false (is_polled x.stage) _ _ not_new ∙ ap (model.start f w (future_seen x) (cell_seen e)) none ∙ start_wait w x.job (cell_seen e) wait in
+          if_false (is_polled x.stage) _ _ not_new ∙ ap (model.start f w (future_seen x) (cell_seen e)) none ∙ start_wait w x.errand (cell_seen e) wait in
           let told : Polls ≡ model.awaits f w (future_seen x) (cell_seen e) = in_neither ∙ either (waits (set_names e.cell.waits) f) (model.awaits f w (future_seen x) (cell_seen e)) _ later in
           rw told (record {
             replied = refl;
@@ -340,7 +340,7 @@ module _ (once : Bool) (e : KeptCell) (f : ℕ) (x : FutureEntry) (s : Stands on
           either false a o same = same
 
   -- ---- a future that uses its cell alone
-  module _ (w : ℕ) (alone : is_alone x.job ≡ true) (idle : runs e.running f ≡ false) where
+  module _ (w : ℕ) (alone : is_alone x.errand ≡ true) (idle : runs e.running f ≡ false) where
     abbrev j : NamedWaker
     j = record { future = f; waker = w }
 
@@ -348,13 +348,13 @@ module _ (once : Bool) (e : KeptCell) (f : ℕ) (x : FutureEntry) (s : Stands on
     Alone_polls = model.poll f w (future_seen x) (cell_seen e)
 
     first_stage : x.stage ≡ New
-    first_stage = at_first (alone_asks_not x.job alone)
+    first_stage = at_first (alone_asks_not x.errand alone)
 
     alone_starts : Alone_polls ≡ model.start f w (future_seen x) (cell_seen e) e.cell.value
-    alone_starts = if_false (waits (cell_seen e).queue f) _ _ (first_out (alone_asks_not x.job alone)) ∙ if_false (waits (runner_of e.running) f) _ _ (runner_waits e.running f ∙ idle)
-        ∙ if_false (waits (set_names e.cell.waits) f) _ _ (out_of_waits once e f x s (alone_waits_not x.job alone)) ∙ if_false (is_polled x.stage) _ _ (ap is_polled first_stage)
+    alone_starts = if_false (waits (cell_seen e).queue f) _ _ (first_out (alone_asks_not x.errand alone)) ∙ if_false (waits (runner_of e.running) f) _ _ (runner_waits e.running f ∙ idle)
+        ∙ if_false (waits (set_names e.cell.waits) f) _ _ (out_of_waits once e f x s (alone_waits_not x.errand alone)) ∙ if_false (is_polled x.stage) _ _ (ap is_polled first_stage)
 
-    alone_runs : (j : Job) (c : Cell) → is_alone j ≡ true → model.start_in f w (future_seen x) c j ≡ model.run f w (future_seen x) c (init_of j)
+    alone_runs : (j : Errand) (c : Cell) → is_alone j ≡ true → model.start_in f w (future_seen x) c j ≡ model.run f w (future_seen x) c (init_of j)
     alone_runs (Calls r) c is = absurd (cc)
     alone_runs (Computes r) c is = absurd (cc)
     alone_runs (Alone r) c is = refl
@@ -404,7 +404,7 @@ module _ (once : Bool) (e : KeptCell) (f : ℕ) (x : FutureEntry) (s : Stands on
     alone_told : (v : Option ℕ) → e.cell.value ≡ v → Alone_polls ≡ model.start f w (future_seen x) (cell_seen e) v
     alone_told v is = alone_starts ∙ ap (model.start f w (future_seen x) (cell_seen e)) is
 
-    full_alone : (v : ℕ) (j : Job) → is_alone j ≡ true → model.found_full j v ≡ answers.Value v
+    full_alone : (v : ℕ) (j : Errand) → is_alone j ≡ true → model.found_full j v ≡ answers.Value v
     full_alone v (Calls r) is = absurd (cc)
     full_alone v (Computes r) is = absurd (cc)
     full_alone v (Alone r) is = refl
@@ -412,7 +412,7 @@ module _ (once : Bool) (e : KeptCell) (f : ℕ) (x : FutureEntry) (s : Stands on
     full_alone v (Inserts u) is = absurd (cc)
     full_alone v Awaits is = absurd (cc)
 
-    filled_alone : (v : ℕ) (j : Job) → is_alone j ≡ true → model.has_filled j v ≡ answers.Value v
+    filled_alone : (v : ℕ) (j : Errand) → is_alone j ≡ true → model.has_filled j v ≡ answers.Value v
     filled_alone v (Calls r) is = absurd (cc)
     filled_alone v (Computes r) is = absurd (cc)
     filled_alone v (Alone r) is = refl
@@ -427,7 +427,7 @@ module _ (once : Bool) (e : KeptCell) (f : ℕ) (x : FutureEntry) (s : Stands on
       no_waits (k ∷ ks) is = absurd (omega (arith, is))
 
       abbrev Gone : NamedCell → KeptCell
-      Gone c = finished (stopped (record e { cell = c }) f) x.job
+      Gone c = finished (stopped (record e { cell = c }) f) x.errand
 
       -- it is gone, and the cell has this value
       alone_leaves : (v : Option ℕ) (step : Step) (answer : Answer) → answer ≡ step.reply → step.future ≡ None → step.wakes ≡ []
@@ -444,33 +444,33 @@ module _ (once : Bool) (e : KeptCell) (f : ℕ) (x : FutureEntry) (s : Stands on
           ∙ (λ i. record (cell_seen e) { taken = sym (ap (λ n. n == 0) alone_free) i; queue = who (names_in (sym none_queued i)); runner = [] })
 
       pub alone_full : (v : ℕ) → e.cell.value ≡ Some v → Makes once e s.fs s.n f x.cell 1 (answers.Value v) None Alone_polls (Gone e.cell)
-      alone_full v is = rw (alone_told (Some v) is ∙ ap (λ a. model.leaves (cell_seen e) a []) (full_alone v x.job alone))
+      alone_full v is = rw (alone_told (Some v) is ∙ ap (λ a. model.leaves (cell_seen e) a []) (full_alone v x.errand alone))
           (alone_leaves e.cell.value (model.leaves (cell_seen e) (answers.Value v) []) (answers.Value v) refl refl refl (λ i. record (cell_seen e) { runner = runner_of (sym no_runner i) }) s.kept.sound)
 
-      pub alone_made : (v : ℕ) → e.cell.value ≡ None → init_of x.job ≡ Gives v → IsSoundCell (record e.cell { value = Some v }) → Makes once e s.fs s.n f x.cell 1 (answers.Value v) None Alone_polls (Gone (record e.cell { value = Some v }))
+      pub alone_made : (v : ℕ) → e.cell.value ≡ None → init_of x.errand ≡ Gives v → IsSoundCell (record e.cell { value = Some v }) → Makes once e s.fs s.n f x.cell 1 (answers.Value v) None Alone_polls (Gone (record e.cell { value = Some v }))
       alone_made v is gives sound =
           let told : Alone_polls ≡ model.leaves (model.filled f v (cell_seen e)) (answers.Value v) (wakers (set_names e.cell.waits) ++ model.woken_next (cell_seen e).queue) =
-          alone_told None is ∙ alone_runs x.job (cell_seen e) alone ∙ ap (model.run f w (future_seen x) (cell_seen e)) gives ∙ ap (λ a. model.leaves (model.filled f v (cell_seen e)) a (wakers (set_names e.cell.waits) ++ model.woken_next (cell_seen e).queue)) (filled_alone v x.job alone) in
+          alone_told None is ∙ alone_runs x.errand (cell_seen e) alone ∙ ap (model.run f w (future_seen x) (cell_seen e)) gives ∙ ap (λ a. model.leaves (model.filled f v (cell_seen e)) a (wakers (set_names e.cell.waits) ++ model.woken_next (cell_seen e).queue)) (filled_alone v x.errand alone) in
           rw told (alone_leaves (Some v) (model.leaves (model.filled f v (cell_seen e)) (answers.Value v) (wakers (set_names e.cell.waits) ++ model.woken_next (cell_seen e).queue)) (answers.Value v) refl refl
           (λ i. wakers (no_waits e.cell.waits.wakers none_waits i) ++ model.woken_next (who (names_in (none_queued i))))
           (sym ((λ i. model.passed (who (names_in (none_queued i))) (record (cell_seen e) { value = Some v; queue = who (names_in (none_queued i)); runner = (runner_without e.running f ∙ ap (λ r. runner_of (cond (runs r f) None r)) no_runner) i; waits = sym (no_waits e.cell.waits.wakers none_waits) i }))
           ∙ (λ i. record (cell_seen e) { value = Some v; taken = sym (ap (λ n. n == 0) alone_free) i; queue = who (names_in (sym none_queued i)); runner = [] }))) sound)
 
-      pub alone_failed : (z : ℕ) → e.cell.value ≡ None → init_of x.job ≡ Fails z → Makes once e s.fs s.n f x.cell 1 (answers.Failure z) None Alone_polls (Gone e.cell)
+      pub alone_failed : (z : ℕ) → e.cell.value ≡ None → init_of x.errand ≡ Fails z → Makes once e s.fs s.n f x.cell 1 (answers.Failure z) None Alone_polls (Gone e.cell)
       alone_failed z is fails =
           let told : Alone_polls ≡ model.leaves (model.given_up f (cell_seen e)) (answers.Failure z) (model.woken_next (cell_seen e).queue) =
-          alone_told None is ∙ alone_runs x.job (cell_seen e) alone ∙ ap (model.run f w (future_seen x) (cell_seen e)) fails in
+          alone_told None is ∙ alone_runs x.errand (cell_seen e) alone ∙ ap (model.run f w (future_seen x) (cell_seen e)) fails in
           rw told (alone_leaves e.cell.value (model.leaves (model.given_up f (cell_seen e)) (answers.Failure z) (model.woken_next (cell_seen e).queue)) (answers.Failure z) refl refl
           (λ i. model.woken_next (who (names_in (none_queued i)))) (sym no_more) s.kept.sound)
 
-    pub alone_pends : e.cell.value ≡ None → init_of x.job ≡ Unsettled → Makes once e s.fs s.n f x.cell 1 answers.Pending (Some x) Alone_polls (record e { running = Some j })
+    pub alone_pends : e.cell.value ≡ None → init_of x.errand ≡ Unsettled → Makes once e s.fs s.n f x.cell 1 answers.Pending (Some x) Alone_polls (record e { running = Some j })
     alone_pends is opened =
-        let told : Alone_polls ≡ model.pends (record (future_seen x) { polled = not (is_alone x.job) }) (record (cell_seen e) { runner = runner_of e.running ++ (f, w) ∷ [] }) =
-        alone_told None is ∙ alone_runs x.job (cell_seen e) alone ∙ ap (model.run f w (future_seen x) (cell_seen e)) opened in
+        let told : Alone_polls ≡ model.pends (record (future_seen x) { polled = not (is_alone x.errand) }) (record (cell_seen e) { runner = runner_of e.running ++ (f, w) ∷ [] }) =
+        alone_told None is ∙ alone_runs x.errand (cell_seen e) alone ∙ ap (model.run f w (future_seen x) (cell_seen e)) opened in
         rw told (record {
           replied = refl;
           cell = λ i. record (cell_seen e) { runner = runner_of (sym no_runner i) ++ (f, w) ∷ [] };
-          future = λ i. Some (record { cell = x.cell; job = x.job; polled = (ap is_polled first_stage ∙ ap not (sym alone)) i });
+          future = λ i. Some (record { cell = x.cell; errand = x.errand; polled = (ap is_polled first_stage ∙ ap not (sym alone)) i });
           mine = refl;
           woken = ap (λ (ks : List NamedWaker). map (λ (k : NamedWaker). k.waker) ks) s.kept.quiet;
           sound = s.kept.sound;
@@ -481,13 +481,13 @@ module _ (once : Bool) (e : KeptCell) (f : ℕ) (x : FutureEntry) (s : Stands on
         })
 
 -- ---- the calls of the entry
-pub wait_fits : (once : Bool) (e : KeptCell) (f w : ℕ) (x : FutureEntry) (over : Bool) (c : NamedCell) (slot : Option Place) (e2 : KeptCell) (more : ℕ) → Stands once e f x → is_wait x.job ≡ true → (is_some e.cell.value ≡ true → length e.cell.waits.wakers ≡ 0)
-    → WaitsCell e.cell x.wait (record { future = f; waker = w }) over c slot → IsSoundCell c → e2 ≡ cond over (finished (stopped (record e { cell = c }) f) x.job) (record e { cell = c }) → more ≡ keeps e + 1 → keeps e2 + length e2.cell.permit.wakes ≤ more
+pub wait_fits : (once : Bool) (e : KeptCell) (f w : ℕ) (x : FutureEntry) (over : Bool) (c : NamedCell) (slot : Option Place) (e2 : KeptCell) (more : ℕ) → Stands once e f x → is_wait x.errand ≡ true → (is_some e.cell.value ≡ true → length e.cell.waits.wakers ≡ 0)
+    → WaitsCell e.cell x.wait (record { future = f; waker = w }) over c slot → IsSoundCell c → e2 ≡ cond over (finished (stopped (record e { cell = c }) f) x.errand) (record e { cell = c }) → more ≡ keeps e + 1 → keeps e2 + length e2.cell.permit.wakes ≤ more
 wait_fits once e f w x true c slot e2 more s wait drained is sound made all = rw (made, all, is.1) (waits_over once e f x s w wait is.0 drained).fit
 wait_fits once e f w x false c slot e2 more s wait drained is sound made all = rw (made, all, is.1) (waits_make once e f x s w wait is.0 (rw is.1 at sound)).fit
 
-pub wait_steps : (once : Bool) (e : KeptCell) (f w : ℕ) (x : FutureEntry) (over : Bool) (c : NamedCell) (slot : Option Place) (e2 new : KeptCell) (more : ℕ) (before ready after : Waking ℕ) (s : Stands once e f x) → is_wait x.job ≡ true → (is_some e.cell.value ≡ true → length e.cell.waits.wakers ≡ 0)
-    → WaitsCell e.cell x.wait (record { future = f; waker = w }) over c slot → IsSoundCell c → e2 ≡ cond over (finished (stopped (record e { cell = c }) f) x.job) (record e { cell = c }) → more ≡ keeps e + 1
+pub wait_steps : (once : Bool) (e : KeptCell) (f w : ℕ) (x : FutureEntry) (over : Bool) (c : NamedCell) (slot : Option Place) (e2 new : KeptCell) (more : ℕ) (before ready after : Waking ℕ) (s : Stands once e f x) → is_wait x.errand ≡ true → (is_some e.cell.value ≡ true → length e.cell.waits.wakers ≡ 0)
+    → WaitsCell e.cell x.wait (record { future = f; waker = w }) over c slot → IsSoundCell c → e2 ≡ cond over (finished (stopped (record e { cell = c }) f) x.errand) (record e { cell = c }) → more ≡ keeps e + 1
     → ready ≡ record before { registered = before.registered + 1 } → HandsOn e2 new more ready after
     → Stepped once e s.fs s.n f x.cell (left_by over (record x { wait = slot })) (model.poll f w (future_seen x) (cell_seen e)) (cond over answers.Ready answers.Pending) new before after
 wait_steps once e f w x true c slot e2 new more before ready after s wait drained is sound made all grown hands =
@@ -501,23 +501,23 @@ abbrev waker_of : ℕ → ℕ → NamedWaker
 waker_of f w = record { future = f; waker = w }
 
 -- a future that uses its cell alone ran
-alone_ran : (once : Bool) (e : KeptCell) (f w : ℕ) (x : FutureEntry) (s : Stands once e f x) (alone : is_alone x.job ≡ true) (idle : runs e.running f ≡ false) (v : Option ℕ) (r : Initialiser) (told : PollReply) (e2 : KeptCell) → e.cell.value ≡ v → init_of x.job ≡ r → length e.cell.waits.wakers ≡ 0
-    → RanAlone v r e (waker_of f w) x.job told e2 → IsSoundCell e2.cell → Makes once e s.fs s.n f x.cell 1 told.answer (left_by told.over x) (model.poll f w (future_seen x) (cell_seen e)) e2
-alone_ran once e f w x s alone idle (Some v) r told e2 is it none ran sound = rw (ran.0, ran.1, full_alone once e f x s w alone idle v x.job alone) (alone_full once e f x s w alone idle none v is)
+alone_ran : (once : Bool) (e : KeptCell) (f w : ℕ) (x : FutureEntry) (s : Stands once e f x) (alone : is_alone x.errand ≡ true) (idle : runs e.running f ≡ false) (v : Option ℕ) (r : Initialiser) (told : PollReply) (e2 : KeptCell) → e.cell.value ≡ v → init_of x.errand ≡ r → length e.cell.waits.wakers ≡ 0
+    → RanAlone v r e (waker_of f w) x.errand told e2 → IsSoundCell e2.cell → Makes once e s.fs s.n f x.cell 1 told.answer (left_by told.over x) (model.poll f w (future_seen x) (cell_seen e)) e2
+alone_ran once e f w x s alone idle (Some v) r told e2 is it none ran sound = rw (ran.0, ran.1, full_alone once e f x s w alone idle v x.errand alone) (alone_full once e f x s w alone idle none v is)
 alone_ran once e f w x s alone idle None Unsettled told e2 is it none ran sound = rw (ran.0, ran.1) (alone_pends once e f x s w alone idle is it)
-alone_ran once e f w x s alone idle None (Gives v) told e2 is it none ran sound = rw (ran.0, ran.1, full_alone once e f x s w alone idle v x.job alone) (alone_made once e f x s w alone idle none v is it (subst (λ (e : KeptCell). IsSoundCell e.cell) ran.1 sound))
+alone_ran once e f w x s alone idle None (Gives v) told e2 is it none ran sound = rw (ran.0, ran.1, full_alone once e f x s w alone idle v x.errand alone) (alone_made once e f x s w alone idle none v is it (subst (λ (e : KeptCell). IsSoundCell e.cell) ran.1 sound))
 alone_ran once e f w x s alone idle None (Fails z) told e2 is it none ran sound = rw (ran.0, ran.1) (alone_failed once e f x s w alone idle none z is it)
 
-pub alone_fits : (once : Bool) (e : KeptCell) (f w : ℕ) (x : FutureEntry) (told : PollReply) (e2 : KeptCell) (more : ℕ) → Stands once e f x → is_alone x.job ≡ true → runs e.running f ≡ false → length e.cell.waits.wakers ≡ 0 → RanAlone e.cell.value (init_of x.job) e (waker_of f w) x.job told e2
+pub alone_fits : (once : Bool) (e : KeptCell) (f w : ℕ) (x : FutureEntry) (told : PollReply) (e2 : KeptCell) (more : ℕ) → Stands once e f x → is_alone x.errand ≡ true → runs e.running f ≡ false → length e.cell.waits.wakers ≡ 0 → RanAlone e.cell.value (init_of x.errand) e (waker_of f w) x.errand told e2
     → IsSoundCell e2.cell → more ≡ keeps e + 1 → keeps e2 + length e2.cell.permit.wakes ≤ more
-alone_fits once e f w x told e2 more s alone idle none ran sound all = rw all (alone_ran once e f w x s alone idle e.cell.value (init_of x.job) told e2 refl refl none ran sound).fit
+alone_fits once e f w x told e2 more s alone idle none ran sound all = rw all (alone_ran once e f w x s alone idle e.cell.value (init_of x.errand) told e2 refl refl none ran sound).fit
 
-pub alone_steps : (once : Bool) (e : KeptCell) (f w : ℕ) (x : FutureEntry) (told : PollReply) (e2 new : KeptCell) (more : ℕ) (before ready after : Waking ℕ) (s : Stands once e f x) → is_alone x.job ≡ true → runs e.running f ≡ false → length e.cell.waits.wakers ≡ 0
-    → RanAlone e.cell.value (init_of x.job) e (waker_of f w) x.job told e2 → IsSoundCell e2.cell → more ≡ keeps e + 1 → ready ≡ record before { registered = before.registered + 1 } → HandsOn e2 new more ready after
+pub alone_steps : (once : Bool) (e : KeptCell) (f w : ℕ) (x : FutureEntry) (told : PollReply) (e2 new : KeptCell) (more : ℕ) (before ready after : Waking ℕ) (s : Stands once e f x) → is_alone x.errand ≡ true → runs e.running f ≡ false → length e.cell.waits.wakers ≡ 0
+    → RanAlone e.cell.value (init_of x.errand) e (waker_of f w) x.errand told e2 → IsSoundCell e2.cell → more ≡ keeps e + 1 → ready ≡ record before { registered = before.registered + 1 } → HandsOn e2 new more ready after
     → Stepped once e s.fs s.n f x.cell (left_by told.over x) (model.poll f w (future_seen x) (cell_seen e)) told.answer new before after
 alone_steps once e f w x told e2 new more before ready after s alone idle none ran sound all grown hands =
-    handed once e s.fs s.n f x.cell 1 told.answer (left_by told.over x) (model.poll f w (future_seen x) (cell_seen e)) e2 new before ready after (alone_ran once e f w x s alone idle e.cell.value (init_of x.job) told e2 refl refl none ran sound) (rw all at hands)
+    handed once e s.fs s.n f x.cell 1 told.answer (left_by told.over x) (model.poll f w (future_seen x) (cell_seen e)) e2 new before ready after (alone_ran once e f w x s alone idle e.cell.value (init_of x.errand) told e2 refl refl none ran sound) (rw all at hands)
     (ap (λ (r : Waking ℕ). r.wakers) grown) (ap (λ (r : Waking ℕ). r.registered) grown)
 
-pub alone_is_free : (once : Bool) (e : KeptCell) (f w : ℕ) (x : FutureEntry) (s : Stands once e f x) → is_alone x.job ≡ true → runs e.running f ≡ false → e.cell.permit.free ≡ 1
+pub alone_is_free : (once : Bool) (e : KeptCell) (f w : ℕ) (x : FutureEntry) (s : Stands once e f x) → is_alone x.errand ≡ true → runs e.running f ≡ false → e.cell.permit.free ≡ 1
 alone_is_free once e f w x s alone idle = alone_free once e f x s w alone idle

@@ -7,7 +7,7 @@ use Rattle.std.proofs.lemmas.List.{length-append}
 use Rattle.mea_family.specs.Causes.{unknown_unless, borrowed_by}
 use Rattle.mea_family.specs.declared.answer.Answer.{Answer}
 use Rattle.mea_family.specs.declared.answer.Answer.TheVariants as answers
-use Rattle.mea_family.specs.Family.{Outcome, quietly}
+use Rattle.mea_family.specs.Family.{Outcome}
 use Rattle.mea_base.specs.Ready.{Waking}
 use Rattle.mea_base.specs.Totals.{total, weight}
 use Rattle.mea_base.proofs.Maps.{by_put, total-has, nothing_at, inside, removed_there}
@@ -25,12 +25,13 @@ use Rattle.mea_cores_by_name.specs.Linked.{names_in}
 use Rattle.mea_cores_by_name.specs.SetLinked.{AreBelow, names_of, set_names}
 use Rattle.mea_cores_by_name.proofs.Sets.{below_absent}
 use Rattle.mea_once_core.specs.declared.cell_stage.CellStage.TheVariants.{New}
-use Rattle.mea_once_model.specs.declared.job.Initialiser.{Initialiser}
-use Rattle.mea_once_model.specs.declared.job.Job.{Job}
-use Rattle.mea_once_model.specs.declared.job.Job.TheVariants.{Calls, Computes, Alone, Sets, Inserts, Awaits}
+use Rattle.mea_once_model.specs.declared.errand.Initialiser.{Initialiser}
+use Rattle.mea_once_model.specs.declared.errand.Errand.{Errand}
+use Rattle.mea_once_model.specs.declared.errand.Errand.TheVariants.{Calls, Computes, Alone, Sets, Inserts, Awaits}
+use Rattle.mea_once_model.specs.declared.whole_use.WholeUse.{WholeUse}
 use Rattle.mea_once_model.specs.Cells as model
 use Rattle.mea_once_model.specs.Cells.{Cell, CellFuture, Cells, Step, is_cell, is_future, is_unsettled, settles_in, futures_of, alone_of, registered, waiting_at, is_alone, settled}
-use Rattle.mea_once_model.specs.Actions.{act_in, Make, Begin, Poll, Settle, End, TellFull, Tell, Peek, Put, Take, TakeOut, Drop, in_the_way}
+use Rattle.mea_once_model.specs.Actions.{act_in, Make, Begin, Poll, Settle, End, TellFull, Tell, Use, TakeOut, Drop, in_the_way}
 use Rattle.mea_once.specs.declared.future_entry.FutureEntry.{FutureEntry}
 use Rattle.mea_once.specs.Cores.{NamedCell, IsSoundCell}
 use Rattle.mea_once.specs.Entries.{KeptCell, begun, keeps, of_running, left_by}
@@ -96,7 +97,7 @@ module _ (once : Bool) {old : Part Cells} (es : Names KeptCell) (fs : Names Futu
     futures_are = ap (λ (p : Part Cells). futures_of p.hall o) (sym view) ∙ ap (λ n. len n) own_seen ∙ len-seen future_seen (own of_future o fs) ∙ sym (kept.hall.each o e there).tied.futures
 
     pub alone_are : alone_of old.hall o ≡ e.alone
-    alone_are = ap (λ (p : Part Cells). alone_of p.hall o) (sym view) ∙ ap (count (λ (x : CellFuture). is_alone x.job)) own_seen ∙ total-seen future_seen (λ (x : CellFuture). cond (is_alone x.job) 1 0) (own of_future o fs) ∙ sym (kept.hall.each o e there).tied.alone
+    alone_are = ap (λ (p : Part Cells). alone_of p.hall o) (sym view) ∙ ap (count (λ (x : CellFuture). is_alone x.errand)) own_seen ∙ total-seen future_seen (λ (x : CellFuture). cond (is_alone x.errand) 1 0) (own of_future o fs) ∙ sym (kept.hall.each o e there).tied.alone
 
     pub stands_for : StandsFor old.hall o e.cell
     stands_for = record {
@@ -120,8 +121,8 @@ module _ (once : Bool) {old : Part Cells} (es : Names KeptCell) (fs : Names Futu
     pub whole_cause : (p : Option KeptCell) → get es o ≡ p → borrowed_by (is_cell old.hall o) (futures_of old.hall o) ≡ borrowed_at (λ (e : KeptCell). e.futures) p
     whole_cause = borrowed_is (futures_of old.hall o) (λ e. e.futures) (futures_are kept o)
 
-    pub begin_cause : (job : Job) (p : Option KeptCell) → get es o ≡ p → borrowed_by (is_cell old.hall o) (in_the_way old.hall o job) ≡ borrowed_at (λ (e : KeptCell). if is_alone job then e.futures else e.alone) p
-    begin_cause job = borrowed_is (in_the_way old.hall o job) (λ e. if is_alone job then e.futures else e.alone) (λ e is. so (is_alone job) e is)
+    pub begin_cause : (errand : Errand) (p : Option KeptCell) → get es o ≡ p → borrowed_by (is_cell old.hall o) (in_the_way old.hall o errand) ≡ borrowed_at (λ (e : KeptCell). if is_alone errand then e.futures else e.alone) p
+    begin_cause errand = borrowed_is (in_the_way old.hall o errand) (λ e. if is_alone errand then e.futures else e.alone) (λ e is. so (is_alone errand) e is)
       where
         so : (b : Bool) (e : KeptCell) → get es o ≡ Some e → (if b then futures_of old.hall o else alone_of old.hall o) ≡ (if b then e.futures else e.alone)
         so true e is = futures_are kept o e is
@@ -229,7 +230,7 @@ module _ (once : Bool) {old : Part Cells} {i : ℕ} (s : Site once old i) where
     few_futures =
         let low = s.kept.hall.below o e there in
         let all = s.kept.hall.low in
-        let alone : e.alone ≤ e.futures = omega (arith, its_kept.tied.alone, its_kept.tied.futures, count-least (λ (x : FutureEntry). is_alone x.job) (own of_future o s.fs)) in
+        let alone : e.alone ≤ e.futures = omega (arith, its_kept.tied.alone, its_kept.tied.futures, count-least (λ (x : FutureEntry). is_alone x.errand) (own of_future o s.fs)) in
         (omega (arith, low.1), omega (arith, low.1))
 
     found_cell : (act : Cell → Outcome Cells) → found (get (seen cell_seen s.es) o) seen_all act ≡ act (cell_seen e)
@@ -256,9 +257,6 @@ module _ (once : Bool) {old : Part Cells} {i : ℕ} (s : Site once old i) where
     pub told : PartRests registered old i (act_in old.hall i (Tell o)) (content e.cell.value) (part_of s.es s.fs (i + 1))
     told = rests_as (λ h. act_in h i (Tell o)) _ _ s.es s.fs (found_cell _) refl refl refl refl refl
 
-    pub peeked : (AreKeptCells once (insert s.es o e) s.fs (i + 1)) × PartRests registered old i (act_in old.hall i (Peek o)) (content e.cell.value) (part_of (insert s.es o e) s.fs (i + 1))
-    peeked = rw (insert_same s.es o e there) (rests, rests_as (λ h. act_in h i (Peek o)) _ _ s.es s.fs (found_cell _) refl refl refl refl refl)
-
     -- ---- for who uses the whole cell
     module _ (alone : futures_of old.hall o ≡ 0) where
       pub nothing : e.futures ≡ 0
@@ -274,34 +272,17 @@ module _ (once : Bool) {old : Part Cells} {i : ℕ} (s : Site once old i) where
         tied = record { linked = its_kept.tied.linked; held = its_kept.tied.held; runner = its_kept.tied.runner; each = its_kept.tied.each; single = its_kept.tied.single; futures = its_kept.tied.futures; alone = its_kept.tied.alone };
       }
 
-      low_there : AreBelow e.cell.waits.wakers (i + 1)
-      low_there = low_old o e there
-
-      pub valued : (v : Option ℕ) → IsSoundCell (record e.cell { value = v }) → AreKeptCells once (insert s.es o (record e { cell = record e.cell { value = v } })) s.fs (i + 1)
-      valued v sound = turns (record e { cell = record e.cell { value = v } }) s.fs Stays (revalued v sound) (omega arith) low_there
-
-      pub taken : PartRests registered old i (act_in old.hall i (Take o)) (content e.cell.value) (part_of (insert s.es o (record e { cell = record e.cell { value = None } })) s.fs (i + 1))
-      taken = rests_as (λ h. act_in h i (Take o)) _ _ (insert s.es o (record e { cell = record e.cell { value = None } })) s.fs (found_cell _) refl (seen-insert cell_seen s.es o _) refl refl (let now = kept_now (record e { cell = record e.cell { value = None } }) in omega (arith, now))
-
-      pub put_full : (v : ℕ) → is_some e.cell.value ≡ true → PartRests registered old i (act_in old.hall i (Put o v)) answers.Done (part_of (insert s.es o (record e { cell = record e.cell { value = Some v } })) s.fs (i + 1))
-      put_full v full = rests_as (λ h. act_in h i (Put o v)) _ _ (insert s.es o (record e { cell = record e.cell { value = Some v } })) s.fs (found_cell _ ∙ by_value e.cell.value full) refl (seen-insert cell_seen s.es o _) refl refl (let now = kept_now (record e { cell = record e.cell { value = Some v } }) in omega (arith, now))
-        where
-          by_value : (u : Option ℕ) → is_some u ≡ true → model.put_in seen_all o v (cell_seen e) u ≡ quietly (model.with_cell seen_all o (record (cell_seen e) { value = Some v })) answers.Done
-          by_value None is = absurd (cc)
-          by_value (Some u) is = refl
-
-      pub put_empty : (v : ℕ) → is_some e.cell.value ≡ false → (AreKeptCells once (insert s.es o e) s.fs (i + 1)) × PartRests registered old i (act_in old.hall i (Put o v)) answers.Lacking (part_of (insert s.es o e) s.fs (i + 1))
-      put_empty v none = rw (insert_same s.es o e there) (rests, rests_as (λ h. act_in h i (Put o v)) _ _ s.es s.fs (found_cell _ ∙ by_value e.cell.value none) refl refl refl refl refl)
-        where
-          by_value : (u : Option ℕ) → is_some u ≡ false → model.put_in seen_all o v (cell_seen e) u ≡ quietly seen_all answers.Lacking
-          by_value None is = refl
-          by_value (Some u) is = absurd (cc)
-
-      -- it is written where there is a value
-      pub put_part : (v : ℕ) (b : Bool) (e' : KeptCell) → b ≡ is_some e.cell.value → (b ≡ true → e' ≡ record e { cell = record e.cell { value = Some v } }) → (is_some e.cell.value ≡ false → e' ≡ e) → IsSoundCell e'.cell
-          → (AreKeptCells once (insert s.es o e') s.fs (i + 1)) × PartRests registered old i (act_in old.hall i (Put o v)) (if b then answers.Done else answers.Lacking) (part_of (insert s.es o e') s.fs (i + 1))
-      put_part v true e' is full empty_is sound = rw (full refl) (valued (Some v) (subst (λ (e : KeptCell). IsSoundCell e.cell) (full refl) sound), put_full v (sym is))
-      put_part v false e' is full empty_is sound = rw (empty_is (sym is)) (put_empty v (sym is))
+      -- its value is used
+      pub used : (u : WholeUse) (e' : KeptCell) → e' ≡ record e { cell = record e.cell { value = model.value_after u e.cell.value } } → IsSoundCell e'.cell
+          → (AreKeptCells once (insert s.es o e') s.fs (i + 1)) × PartRests registered old i (act_in old.hall i (Use o u)) (model.reply_to u e.cell.value) (part_of (insert s.es o e') s.fs (i + 1))
+      used u e' is sound =
+          let v = model.value_after u e.cell.value in
+          let d : KeptCell = record e { cell = record e.cell { value = v } } in
+          let now = kept_now d in
+          rw is (
+            turns d s.fs Stays (revalued v (subst (λ (e : KeptCell). IsSoundCell e.cell) is sound)) (omega arith) (low_old o e there),
+            rests_as (λ h. act_in h i (Use o u)) _ _ (insert s.es o d) s.fs (found_cell _) refl (seen-insert cell_seen s.es o d) refl refl (omega (arith, now)),
+          )
 
       -- it is gone
       pub goes_kept : AreKeptCells once (remove s.es o) s.fs (i + 1)
@@ -326,12 +307,12 @@ module _ (once : Bool) {old : Part Cells} {i : ℕ} (s : Site once old i) where
       taken_out before room = goes_yields (λ h. act_in h i (TakeOut o)) (content e.cell.value) before (found_cell _) room
 
     -- ---- a future of it is made
-    pub begins_future : (x : FutureEntry) → x.cell ≡ o → x.stage ≡ New → x.wait ≡ None → fits once x.job ≡ true → in_the_way old.hall o x.job ≡ 0
-        → (AreKeptCells once (insert s.es o (begun e x.job)) (insert s.fs i x) (i + 1)) × PartRests registered old i (act_in old.hall i (Begin o x.job)) answers.Made (part_of (insert s.es o (begun e x.job)) (insert s.fs i x) (i + 1))
+    pub begins_future : (x : FutureEntry) → x.cell ≡ o → x.stage ≡ New → x.wait ≡ None → fits once x.errand ≡ true → in_the_way old.hall o x.errand ≡ 0
+        → (AreKeptCells once (insert s.es o (begun e x.errand)) (insert s.fs i x) (i + 1)) × PartRests registered old i (act_in old.hall i (Begin o x.errand)) answers.Made (part_of (insert s.es o (begun e x.errand)) (insert s.fs i x) (i + 1))
     begins_future x mine new unplaced fit free =
         let no_future = halls.no_first of_future of_none (Good once) (λ e. e.futures) s.es s.fs empty s.next i s.kept.hall s.later s.fits in
-        let counted = kept_now (begun e x.job) in (
-          turns (begun e x.job) (insert s.fs i x) (Comes i x (omega arith) mine (λ y had. absurd (cc)))
+        let counted = kept_now (begun e x.errand) in (
+          turns (begun e x.errand) (insert s.fs i x) (Comes i x (omega arith) mine (λ y had. absurd (cc)))
               (rw (own-put of_future o s.fs i x mine) (record {
                 sound = its_kept.sound;
                 quiet = its_kept.quiet;
@@ -339,14 +320,14 @@ module _ (once : Bool) {old : Part Cells} {i : ℕ} (s : Site once old i) where
                     (λ alone. sym (futures_are once s.es s.fs s.next s.view s.kept o e there) ∙ whole alone) (λ shares. sym (alone_are once s.es s.fs s.next s.view s.kept o e there) ∙ shared shares);
               }))
               (omega arith) (low_old o e there),
-          rests_as (λ h. act_in h i (Begin o x.job)) _ answers.Made (insert s.es o (begun e x.job)) (insert s.fs i x) refl refl (seen-alike cell_seen s.es o e (begun e x.job) there refl)
-              (seen-insert future_seen s.fs i x ∙ ap (insert (seen future_seen s.fs) i) (λ j. record { cell = mine j; job = x.job; polled = ap is_polled new j })) refl (omega (arith, counted)),
+          rests_as (λ h. act_in h i (Begin o x.errand)) _ answers.Made (insert s.es o (begun e x.errand)) (insert s.fs i x) refl refl (seen-alike cell_seen s.es o e (begun e x.errand) there refl)
+              (seen-insert future_seen s.fs i x ∙ ap (insert (seen future_seen s.fs) i) (λ j. record { cell = mine j; errand = x.errand; polled = ap is_polled new j })) refl (omega (arith, counted)),
         )
       where
-        whole : is_alone x.job ≡ true → futures_of old.hall o ≡ 0
+        whole : is_alone x.errand ≡ true → futures_of old.hall o ≡ 0
         whole alone = sym (ap (λ b. if b then futures_of old.hall o else alone_of old.hall o) alone) ∙ free
 
-        shared : is_alone x.job ≡ false → alone_of old.hall o ≡ 0
+        shared : is_alone x.errand ≡ false → alone_of old.hall o ≡ 0
         shared shares = sym (ap (λ b. if b then futures_of old.hall o else alone_of old.hall o) shares) ∙ free
 
   -- ---- a future of a cell makes a step
@@ -423,10 +404,10 @@ module _ (once : Bool) {old : Part Cells} {i : ℕ} (s : Site once old i) where
     looked = rw (insert_same s.es x.cell e there, insert_same s.fs f x future) (s.kept, s.view)
 
     -- a settled initialiser fits
-    pub fits_settled : (r : Initialiser) → FitsSettled once r → fits once (settled r x.job) ≡ true
-    fits_settled r fit = at x.job ((stands_there.kept.tied.each f x stands_there.there).fits)
+    pub fits_settled : (r : Initialiser) → FitsSettled once r → fits once (settled r x.errand) ≡ true
+    fits_settled r fit = at x.errand ((stands_there.kept.tied.each f x stands_there.there).fits)
       where
-        at : (j : Job) → fits once j ≡ true → fits once (settled r j) ≡ true
+        at : (j : Errand) → fits once j ≡ true → fits once (settled r j) ≡ true
         at (Calls q) is = by_kind once refl is
           where
             by_kind : (b : Bool) → once ≡ b → cond b (gives_nothing q) false ≡ true → cond b (gives_nothing r) false ≡ true

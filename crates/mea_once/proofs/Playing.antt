@@ -13,7 +13,7 @@ use Rattle.mea_once_model.specs.Tables as tables
 use Rattle.mea_once_model.specs.Tables.{Tables}
 use Rattle.mea_once_model.specs.Actions.{Action, cause_in, act_in}
 use Rattle.mea_once_model.specs.KeyActions.{KeyAction, key_cause, key_act}
-use Rattle.mea_once_model.specs.OnceHall.{OnceHall, Kind, Onces, Values, TableKind, Maps, Groups, registered, is_once}
+use Rattle.mea_once_model.specs.OnceHall.{OnceHall, Kind, Onces, OnceCells, TableKind, Maps, Groups, registered, is_once}
 use Rattle.mea_once_model.specs.Meaning.{Meaning, OfCells, OfTables, meaning_of, step, step_by}
 use Rattle.mea_once.specs.Halls.{Parts, hall_of, of_kind, with_kind, of_table_kind, with_table_kind, PlaysCells, PlaysTables, PlaysBy, IsFree, IsKeyFree}
 use Rattle.mea_once.specs.Acts.{CellActs, CellActsQuietly, KeyActs, KeyActsQuietly, ActsBy}
@@ -46,8 +46,8 @@ module _ (p p' : Parts) (before after : Waking ℕ) (next i : ℕ) (answer : Ans
   cells_counted Onces a one =
       let hall : cells.registered one.part.hall ≡ cells.registered (act_in p.onces.hall i a).hall = ap (λ (q : Part Cells). cells.registered q.hall) one.yields.moved in
       subst Counted (sym one.is) (omega (arith, hall, one.yields.counted))
-  cells_counted Values a one =
-      let hall : cells.registered one.part.hall ≡ cells.registered (act_in p.values.hall i a).hall = ap (λ (q : Part Cells). cells.registered q.hall) one.yields.moved in
+  cells_counted OnceCells a one =
+      let hall : cells.registered one.part.hall ≡ cells.registered (act_in p.cells.hall i a).hall = ap (λ (q : Part Cells). cells.registered q.hall) one.yields.moved in
       subst Counted (sym one.is) (omega (arith, hall, one.yields.counted))
 
   tables_counted : (k : TableKind) (a : KeyAction) → PlaysTables p k i a answer p' before after → Counted p'
@@ -67,7 +67,7 @@ module _ (p p' : Parts) (before after : Waking ℕ) (next i : ℕ) (answer : Ans
 
   cells_yield : (k : Kind) (a : Action) → PlaysCells p k i a answer p' before after → Yielding (step_by (hall_of p) i (OfCells (record { kind = k; action = a })))
   cells_yield Onces a one = yielding one.yields.replied (ap hall_of one.is ∙ (λ j. hall_of (record p { onces = one.yields.moved j }))) one.yields.woken (cells_counted Onces a one)
-  cells_yield Values a one = yielding one.yields.replied (ap hall_of one.is ∙ (λ j. hall_of (record p { values = one.yields.moved j }))) one.yields.woken (cells_counted Values a one)
+  cells_yield OnceCells a one = yielding one.yields.replied (ap hall_of one.is ∙ (λ j. hall_of (record p { cells = one.yields.moved j }))) one.yields.woken (cells_counted OnceCells a one)
 
   tables_yield : (k : TableKind) (a : KeyAction) → PlaysTables p k i a answer p' before after → Yielding (step_by (hall_of p) i (OfTables (record { kind = k; action = a })))
   tables_yield Maps a one = yielding one.yields.replied (ap hall_of one.is ∙ (λ j. hall_of (record p { maps = one.yields.moved j }))) one.yields.woken (tables_counted Maps a one)
@@ -89,8 +89,8 @@ module _ (p : Parts) (i : ℕ) (d : Meaning) where
       at : (k : Kind) (r : Result Answer Stop) → CellActs (of_kind p k) i a r q before after → ActsBy (OfCells (record { kind = k; action = a })) p i r (with_kind p k q) before after
       at Onces (Ok answer) did = (did.0, record { part = q; is = refl; yields = did.1 })
       at Onces (Err stop) did = (did.0, ap (with_kind p Onces) did.1, did.2)
-      at Values (Ok answer) did = (did.0, record { part = q; is = refl; yields = did.1 })
-      at Values (Err stop) did = (did.0, ap (with_kind p Values) did.1, did.2)
+      at OnceCells (Ok answer) did = (did.0, record { part = q; is = refl; yields = did.1 })
+      at OnceCells (Err stop) did = (did.0, ap (with_kind p OnceCells) did.1, did.2)
 
   pub tables_act : (k : TableKind) (a : KeyAction) (r : Result Answer Stop) (q : Part Tables) (before after : Waking ℕ) → d ≡ OfTables (record { kind = k; action = a }) → KeyActs (is_once k) (of_table_kind p k) i a r q before after → ActsBy d p i r (with_table_kind p k q) before after
   tables_act k a r q before after is did = subst (λ d. ActsBy d p i r (with_table_kind p k q) before after) (sym is) (at k r did)

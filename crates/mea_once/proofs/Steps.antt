@@ -30,10 +30,10 @@ use Rattle.mea_once_core.specs.Permit.{IsNext, IsWaiting, Leaves, HoldsAs, held_
 use Rattle.mea_once_core.specs.declared.cell_stage.CellStage.{CellStage}
 use Rattle.mea_once_core.specs.declared.cell_stage.CellStage.TheVariants.{New, Queued, Running, Done}
 use Rattle.mea_once_core.specs.declared.cell_turn.CellTurn.{CellTurn}
-use Rattle.mea_once_model.specs.declared.job.Initialiser.{Initialiser}
-use Rattle.mea_once_model.specs.declared.job.Initialiser.TheVariants.{Unsettled, Gives, Fails}
-use Rattle.mea_once_model.specs.declared.job.Job.{Job}
-use Rattle.mea_once_model.specs.declared.job.Job.TheVariants.{Calls, Computes, Alone, Sets, Inserts, Awaits}
+use Rattle.mea_once_model.specs.declared.errand.Initialiser.{Initialiser}
+use Rattle.mea_once_model.specs.declared.errand.Initialiser.TheVariants.{Unsettled, Gives, Fails}
+use Rattle.mea_once_model.specs.declared.errand.Errand.{Errand}
+use Rattle.mea_once_model.specs.declared.errand.Errand.TheVariants.{Calls, Computes, Alone, Sets, Inserts, Awaits}
 use Rattle.mea_once_model.specs.Cells as model
 use Rattle.mea_once_model.specs.Cells.{Cell, CellFuture, Step, init_of, is_alone, passed, woken_next, given_up, found_full, has_filled}
 use Rattle.mea_once.specs.declared.future_entry.FutureEntry.{FutureEntry}
@@ -131,12 +131,12 @@ module _ (once : Bool) (e : KeptCell) (f : ℕ) (x : FutureEntry) (s : Stands on
   waits_there : (n : ℕ) → x.stage ≡ Queued n → IsWaiting permit n → waits seen_cell.queue f ≡ true
   waits_there n is waiting_is = queued_waits permit.queue permit.granted its tie.linked f 1 n (its_at (Queued n) is) (no_debts permit.queue asks) ∙ ap is_some waiting_is.1
 
-  pub out_of_waits : is_wait x.job ≡ false → waits seen_cell.waits f ≡ false
+  pub out_of_waits : is_wait x.errand ≡ false → waits seen_cell.waits f ≡ false
   out_of_waits none =
       let it = tie.each f x s.there in
       absent_waits e.cell.waits.wakers f (it.slot.absent (ap (is_registered e.cell.waits) (it.place none)))
 
-  caller_no_wait : (j : Job) → is_caller j ≡ true → is_wait j ≡ false
+  caller_no_wait : (j : Errand) → is_caller j ≡ true → is_wait j ≡ false
   caller_no_wait (Calls r) is = refl
   caller_no_wait (Computes r) is = refl
   caller_no_wait (Alone r) is = absurd (cc)
@@ -144,7 +144,7 @@ module _ (once : Bool) (e : KeptCell) (f : ℕ) (x : FutureEntry) (s : Stands on
   caller_no_wait (Inserts v) is = refl
   caller_no_wait Awaits is = absurd (cc)
 
-  pub caller_shares : (j : Job) → is_caller j ≡ true → is_alone j ≡ false
+  pub caller_shares : (j : Errand) → is_caller j ≡ true → is_alone j ≡ false
   caller_shares (Calls r) is = refl
   caller_shares (Computes r) is = refl
   caller_shares (Alone r) is = absurd (cc)
@@ -157,7 +157,7 @@ module _ (once : Bool) (e : KeptCell) (f : ℕ) (x : FutureEntry) (s : Stands on
       → model.poll f w seen_future seen_cell ≡ (if seen_future.polled then model.take_turn f w seen_future seen_cell seen_cell.value else model.start f w seen_future seen_cell seen_cell.value)
   poll_on w out idle apart_of = if_false (waits seen_cell.queue f) _ _ out ∙ if_false (waits seen_cell.runner f) _ _ (runner_waits e.running f ∙ idle) ∙ if_false (waits seen_cell.waits f) _ _ apart_of
 
-  starts_asking : (w : ℕ) (j : Job) (c : Cell) → is_caller j ≡ true → model.start_in f w seen_future c j ≡ model.ask f w seen_future c (init_of j)
+  starts_asking : (w : ℕ) (j : Errand) (c : Cell) → is_caller j ≡ true → model.start_in f w seen_future c j ≡ model.ask f w seen_future c (init_of j)
   starts_asking w (Calls r) c is = refl
   starts_asking w (Computes r) c is = refl
   starts_asking w (Alone r) c is = absurd (cc)
@@ -194,7 +194,7 @@ module _ (once : Bool) (e : KeptCell) (f : ℕ) (x : FutureEntry) (s : Stands on
 
   -- ---- it is gone
   abbrev pub Left : NamedCell → KeptCell
-  Left c = finished (stopped (record e { cell = c }) f) x.job
+  Left c = finished (stopped (record e { cell = c }) f) x.errand
 
   pub goes : (c : NamedCell) (more : ℕ) (step : Step) (answer : Answer) → answer ≡ step.reply → step.future ≡ None → IsSoundCell c → Linked c.permit.queue c.permit.granted (remove its f)
       → held_of c.permit + cond (is_running x) 1 0 ≡ held_of permit → ((g : ℕ) (y : FutureEntry) → get s.fs g ≡ Some y → SlotIs c.waits g y.wait) → AreBelow c.waits.wakers s.n
@@ -258,7 +258,7 @@ module _ (once : Bool) (e : KeptCell) (f : ℕ) (x : FutureEntry) (s : Stands on
   length_drained set (inr is) = ap (λ (s : Registered NamedWaker). length s.wakers) is.1 ∙ ap (λ (ks : List NamedWaker). length ks) is.0
 
   -- ---- its turn has come: the permit is this, and it runs
-  module _ (p : Core NamedWaker) (caller : is_caller x.job ≡ true) (w : ℕ) (idle : runs e.running f ≡ false) (of_queue : p.queue ≡ permit.queue) (quiet : p.wakes ≡ []) (held : HoldsAs permit x.stage p Running) (sound : IsSoundCell (record e.cell { permit = p }))
+  module _ (p : Core NamedWaker) (caller : is_caller x.errand ≡ true) (w : ℕ) (idle : runs e.running f ≡ false) (of_queue : p.queue ≡ permit.queue) (quiet : p.wakes ≡ []) (held : HoldsAs permit x.stage p Running) (sound : IsSoundCell (record e.cell { permit = p }))
       (linked : Linked p.queue p.granted (remove its f)) (again : Linked p.queue p.granted (insert its f (acquire.New 1))) where
     abbrev e1 : KeptCell
     e1 = record e { cell = record e.cell { permit = p } }
@@ -283,10 +283,10 @@ module _ (once : Bool) (e : KeptCell) (f : ℕ) (x : FutureEntry) (s : Stands on
     stage_fits false is = absurd (cc)
 
     mid : Tied once e1 (insert s.fs f y)
-    mid = turned once e s.fs tie f x s.there (record e.cell { permit = p }) Running (stage_fits (is_caller x.job) caller) (λ is. refl) again held refl
+    mid = turned once e s.fs tie f x s.there (record e.cell { permit = p }) Running (stage_fits (is_caller x.errand) caller) (λ is. refl) again held refl
 
-    shares : is_alone x.job ≡ false
-    shares = caller_shares x.job caller
+    shares : is_alone x.errand ≡ false
+    shares = caller_shares x.errand caller
 
     may : MayRun y
     may = ap (λ b. cond b true true) shares
@@ -294,11 +294,11 @@ module _ (once : Bool) (e : KeptCell) (f : ℕ) (x : FutureEntry) (s : Stands on
     none_runs : e.running ≡ None
     none_runs = nobody_runs once e1 (insert s.fs f y) mid f y (get-there s.fs f y) idle may (held_few p sound.permit)
 
-    pub run_makes : (r : Initialiser) (told : PollReply) (e2 : KeptCell) → Ran r e1 waker x.job told e2 → Makes once e s.fs s.n f x.cell 1 told.answer (left_by told.over y) (model.run f w seen_future (cell_seen e1) r) e2
+    pub run_makes : (r : Initialiser) (told : PollReply) (e2 : KeptCell) → Ran r e1 waker x.errand told e2 → Makes once e s.fs s.n f x.cell 1 told.answer (left_by told.over y) (model.run f w seen_future (cell_seen e1) r) e2
     run_makes Unsettled told e2 ran = rw (ran.0, ran.1) (record {
       replied = refl;
       cell = λ i. record { value = e.cell.value; taken = p.free == 0; queue = who (names_in p.queue); runner = runner_of (sym none_runs i) ++ (f, w) ∷ []; waits = set_names e.cell.waits };
-      future = ap (λ b. Some (record { cell = x.cell; job = x.job; polled = not b })) (sym shares);
+      future = ap (λ b. Some (record { cell = x.cell; errand = x.errand; polled = not b })) (sym shares);
       mine = refl;
       woken = ap woken_in quiet;
       sound = sound;
@@ -311,7 +311,7 @@ module _ (once : Bool) (e : KeptCell) (f : ℕ) (x : FutureEntry) (s : Stands on
           omega (arith, none, same);
     })
     run_makes (Gives v) told e2 (c, fills, told_is, e2_is) = rw (told_is, e2_is)
-        (gone (record p { wakes = e.cell.waits.wakers }) c (Some v) [] 1 (model.run f w seen_future (cell_seen e1) (Gives v)) (has_filled x.job v) of_queue fills.permit fills.sound linked
+        (gone (record p { wakes = e.cell.waits.wakers }) c (Some v) [] 1 (model.run f w seen_future (cell_seen e1) (Gives v)) (has_filled x.errand v) of_queue fills.permit fills.sound linked
         (omega (arith, fills.held, its_share)) (slots_drained c.waits fills.waits) (low_drained c.waits fills.waits) refl refl fills.value (names_drained c.waits fills.waits)
         (λ i. passed (who (names_in (sym of_queue i))) (record { value = Some v; taken = p.free == 0; queue = who (names_in (sym of_queue i)); runner = without seen_cell.runner f; waits = [] }))
         (λ i. sym (names-woken e.cell.waits.wakers) i ++ woken_next (who (names_in (sym of_queue i)))) (omega (arith, length_drained c.waits fills.waits)))
@@ -323,19 +323,19 @@ module _ (once : Bool) (e : KeptCell) (f : ℕ) (x : FutureEntry) (s : Stands on
         (let none : length p.wakes ≡ 0 = ap length quiet in let same : length c.waits.wakers ≡ length e.cell.waits.wakers = ap (λ (c : NamedCell). length c.waits.wakers) gives.cell in omega (arith, none, same)))
 
   -- ---- a poll of a caller whose initialiser keeps no waker
-  module _ (caller : is_caller x.job ≡ true) (w : ℕ) (idle : runs e.running f ≡ false) where
+  module _ (caller : is_caller x.errand ≡ true) (w : ℕ) (idle : runs e.running f ≡ false) where
     abbrev k : NamedWaker
     k = record { future = f; waker = w }
 
     abbrev Polled : CellTurn NamedWaker → Core NamedWaker → CellStage → Type 0
-    Polled turn p t = HoldsAs permit x.stage p t → IsSoundCell (record e.cell { permit = p }) → (told : PollReply) (e2 : KeptCell) → Follows turn (record e { cell = record e.cell { permit = p } }) k x.job told e2
+    Polled turn p t = HoldsAs permit x.stage p t → IsSoundCell (record e.cell { permit = p }) → (told : PollReply) (e2 : KeptCell) → Follows turn (record e { cell = record e.cell { permit = p } }) k x.errand told e2
         → Makes once e s.fs s.n f x.cell 1 told.answer (left_by told.over (record x { stage = t })) (model.poll f w seen_future seen_cell) e2
 
     abbrev Polls : Step
     Polls = model.poll f w seen_future seen_cell
 
     unwaited : waits seen_cell.waits f ≡ false
-    unwaited = out_of_waits (caller_no_wait x.job caller)
+    unwaited = out_of_waits (caller_no_wait x.errand caller)
 
     -- by its stage, where it waits nowhere
     first_poll : x.stage ≡ New → (v : Option ℕ) → e.cell.value ≡ v → Polls ≡ model.start f w seen_future seen_cell v
@@ -362,7 +362,7 @@ module _ (once : Bool) (e : KeptCell) (f : ℕ) (x : FutureEntry) (s : Stands on
 
     at_new : (turn : CellTurn NamedWaker) (p : Core NamedWaker) (t : CellStage) → x.stage ≡ New → TurnsTo (is_some e.cell.value) permit k New turn p t → Polled turn p t
     at_new turn p t new (FindsFull full) held sound told e2 (v, value, told_is, e2_is) = rw (told_is, e2_is, first_poll new (Some v) value)
-        (goes e.cell 1 (model.start f w seen_future seen_cell (Some v)) (found_full x.job v) refl refl s.kept.sound (no_number New new (λ n is. absurd (cc)))
+        (goes e.cell 1 (model.start f w seen_future seen_cell (Some v)) (found_full x.errand v) refl refl s.kept.sound (no_number New new (λ n is. absurd (cc)))
         (let no_turn : ◌≡◌ {A = ℕ} (cond (is_running x) 1 0) 0 = ap (λ s. cond (runs_at s) 1 0) new in omega (arith, no_turn)) slots_same s.low
         (λ i. record seen_cell { runner = (sym (runner_without e.running f) ∙ without_idle) i })
         (ap woken_in s.kept.quiet) (let none : length permit.wakes ≡ 0 = ap length s.kept.quiet in omega (arith, none)))
@@ -370,11 +370,11 @@ module _ (once : Bool) (e : KeptCell) (f : ℕ) (x : FutureEntry) (s : Stands on
         without_idle : without (runner_of e.running) f ≡ runner_of e.running
         without_idle = runner_without e.running f ∙ ap (λ b. runner_of (cond b None e.running)) idle
     at_new turn p t new (TakesFree empty free) held sound told e2 follows =
-        rw (first_poll new None (empty_is e.cell.value empty) ∙ starts_asking w x.job seen_cell caller ∙ if_false seen_cell.taken _ _ (ap (λ n. n == 0) free))
-        (run_makes (record permit { free = 0 }) caller w idle refl s.kept.quiet held sound (no_number New new (λ n is. absurd (cc))) (rw (still_insert once e s.fs tie f x s.there New new) tie.linked) (init_of x.job) told e2 follows)
-    at_new turn p t new (LinesUp n q empty taken waits_as) held sound told e2 follows = rw (follows.0, follows.1, first_poll new None (empty_is e.cell.value empty) ∙ starts_asking w x.job seen_cell caller ∙ if_true seen_cell.taken _ _ (ap (λ n. n == 0) taken))
+        rw (first_poll new None (empty_is e.cell.value empty) ∙ starts_asking w x.errand seen_cell caller ∙ if_false seen_cell.taken _ _ (ap (λ n. n == 0) free))
+        (run_makes (record permit { free = 0 }) caller w idle refl s.kept.quiet held sound (no_number New new (λ n is. absurd (cc))) (rw (still_insert once e s.fs tie f x s.there New new) tie.linked) (init_of x.errand) told e2 follows)
+    at_new turn p t new (LinesUp n q empty taken waits_as) held sound told e2 follows = rw (follows.0, follows.1, first_poll new None (empty_is e.cell.value empty) ∙ starts_asking w x.errand seen_cell caller ∙ if_true seen_cell.taken _ _ (ap (λ n. n == 0) taken))
         (waits_on (record e.cell { permit = q }) (Queued n) w refl sound
-        (turned once e s.fs tie f x s.there (record e.cell { permit = q }) (Queued n) (queued_fits n (is_caller x.job) caller) (λ is. absurd (let no : runs_at x.stage ≡ false = ap runs_at new in cc))
+        (turned once e s.fs tie f x s.there (record e.cell { permit = q }) (Queued n) (queued_fits n (is_caller x.errand) caller) (λ is. absurd (let no : runs_at x.stage ≡ false = ap runs_at new in cc))
         (rw waits_as.is (linked_pushed permit.queue permit.granted its tie.linked f (unqueued once e s.fs tie f x s.there New new (λ n is. absurd (cc))) n 1 (1 - permit.free) k refl waits_as.not_waiting waits_as.not_granted)) held refl)
         (ap (λ (s : Core NamedWaker). s.wakes) waits_as.is ∙ s.kept.quiet)
         (let len : length q.queue ≡ length permit.queue + 1 = ap (λ (s : Core NamedWaker). length s.queue) waits_as.is ∙ length-append permit.queue ((Acquires n 1 k, 1 - permit.free) ∷ []) in omega (arith, len))
@@ -390,29 +390,29 @@ module _ (once : Bool) (e : KeptCell) (f : ℕ) (x : FutureEntry) (s : Stands on
 
     at_queued : (n : ℕ) (turn : CellTurn NamedWaker) (p : Core NamedWaker) (t : CellStage) → x.stage ≡ Queued n → TurnsTo (is_some e.cell.value) permit k (Queued n) turn p t → Polled turn p t
     at_queued n turn p t is (FindsLate m next full) held sound told e2 (v, value, told_is, e2_is) = rw (told_is, e2_is, later_poll (next_is_out n is next) (ap is_polled is) (Some v) value)
-        (gone (record permit { granted = remove permit.granted n }) (record e.cell { permit = p }) e.cell.value (set_names e.cell.waits) 1 (model.take_turn f w seen_future seen_cell (Some v)) (found_full x.job v) refl refl sound (number_taken n is next)
+        (gone (record permit { granted = remove permit.granted n }) (record e.cell { permit = p }) e.cell.value (set_names e.cell.waits) 1 (model.take_turn f w seen_future seen_cell (Some v)) (found_full x.errand v) refl refl sound (number_taken n is next)
         (omega (arith, held, held_is x.stage, not_running n is)) slots_same s.low refl refl refl refl refl (ap (λ ws. woken_in ws ++ woken_next seen_cell.queue) s.kept.quiet)
         (let none : length permit.wakes ≡ 0 = ap length s.kept.quiet in omega (arith, none)))
     at_queued n turn p t is (TakesNext m next empty) held sound told e2 follows = rw (later_poll (next_is_out n is next) (ap is_polled is) None (empty_is e.cell.value empty))
-        (run_makes (record permit { granted = remove permit.granted n }) caller w idle refl s.kept.quiet held sound (number_taken n is next) (number_new n is next) (init_of x.job) told e2 follows)
+        (run_makes (record permit { granted = remove permit.granted n }) caller w idle refl s.kept.quiet held sound (number_taken n is next) (number_new n is next) (init_of x.errand) told e2 follows)
     at_queued n turn p t is (WaitsOn m waits_in) held sound told e2 follows = rw (follows.0, follows.1, if_true (waits seen_cell.queue f) _ _ (waits_there n is waits_in))
         (waits_on (record e.cell { permit = p }) (Queued n) w refl sound
-        (turned once e s.fs tie f x s.there (record e.cell { permit = p }) (Queued n) (queued_fits n (is_caller x.job) caller) (λ runs. absurd (let no : runs_at x.stage ≡ false = ap runs_at is in cc)) (number_same n is) held refl)
+        (turned once e s.fs tie f x s.there (record e.cell { permit = p }) (Queued n) (queued_fits n (is_caller x.errand) caller) (λ runs. absurd (let no : runs_at x.stage ≡ false = ap runs_at is in cc)) (number_same n is) held refl)
         s.kept.quiet (omega (arith, length-with permit.queue n k)) (model.pends seen_future (record seen_cell { queue = with_waker seen_cell.queue f w }))
         (λ i. record seen_cell { queue = (ap who (queued_with permit.queue permit.granted its tie.linked f 1 n (its_at (Queued n) is) k refl (no_debts permit.queue asks)) ∙ who-rewoken (names_in permit.queue) f w) i })
         (λ i. Some (future_seen (record x { stage = sym is i }))) refl refl)
 
     at_running : (turn : CellTurn NamedWaker) (p : Core NamedWaker) (t : CellStage) → x.stage ≡ Running → TurnsTo (is_some e.cell.value) permit k Running turn p t → Polled turn p t
     at_running turn p t is (GoesOn empty) held sound told e2 follows = rw (later_poll (out_of_queue Running is (λ n same. absurd (cc))) (ap is_polled is) None (empty_is e.cell.value empty))
-        (run_makes permit caller w idle refl s.kept.quiet held sound (no_number Running is (λ n same. absurd (cc))) (rw (still_insert once e s.fs tie f x s.there Running is) tie.linked) (init_of x.job) told e2 follows)
+        (run_makes permit caller w idle refl s.kept.quiet held sound (no_number Running is (λ n same. absurd (cc))) (rw (still_insert once e s.fs tie f x s.there Running is) tie.linked) (init_of x.errand) told e2 follows)
 
     at_stage : (t0 : CellStage) → x.stage ≡ t0 → (turn : CellTurn NamedWaker) (p : Core NamedWaker) (t : CellStage) → TurnsTo (is_some e.cell.value) permit k t0 turn p t → Polled turn p t
     at_stage New is turn p t turns_as = at_new turn p t is turns_as
     at_stage (Queued n) is turn p t turns_as = at_queued n turn p t is turns_as
     at_stage Running is turn p t turns_as = at_running turn p t is turns_as
-    at_stage Done is turn p t turns_as = absurd (let fits_now = fits_any (is_caller x.job) x.stage (tie.each f x s.there).stage in subst (StageFits true) is fits_now)
+    at_stage Done is turn p t turns_as = absurd (let fits_now = fits_any (is_caller x.errand) x.stage (tie.each f x s.there).stage in subst (StageFits true) is fits_now)
 
-    pub polls_make : (turn : CellTurn NamedWaker) (c : NamedCell) (t : CellStage) → TurnsCell e.cell x.stage k turn c t → (told : PollReply) (e2 : KeptCell) → Follows turn (record e { cell = c }) k x.job told e2
+    pub polls_make : (turn : CellTurn NamedWaker) (c : NamedCell) (t : CellStage) → TurnsCell e.cell x.stage k turn c t → (told : PollReply) (e2 : KeptCell) → Follows turn (record e { cell = c }) k x.errand told e2
         → Makes once e s.fs s.n f x.cell 1 told.answer (left_by told.over (record x { stage = t })) Polls e2
     polls_make turn c t turned_as told e2 follows = at_stage x.stage refl turn c.permit t turned_as.turns turned_as.held (rw turned_as.rest at turned_as.sound) told e2 (rw turned_as.rest at follows)
 
@@ -441,14 +441,14 @@ module _ (once : Bool) (e : KeptCell) (f : ℕ) (x : FutureEntry) (s : Stands on
   end_in_queue queued = if_true (waits seen_cell.queue f) _ _ queued
 
   waiting_idle : (n : ℕ) → x.stage ≡ Queued n → runs e.running f ≡ false
-  waiting_idle n is = runs_not once e s.fs tie f x s.there (caller_shares x.job caller) (ap runs_at is)
+  waiting_idle n is = runs_not once e s.fs tie f x s.there (caller_shares x.errand caller) (ap runs_at is)
     where
       fits_caller : (b : Bool) → StageFits b (Queued n) → b ≡ true
       fits_caller true is_it = refl
       fits_caller false is_it = absurd is_it
 
-      caller : is_caller x.job ≡ true
-      caller = fits_caller (is_caller x.job) (subst (StageFits (is_caller x.job)) is (tie.each f x s.there).stage)
+      caller : is_caller x.errand ≡ true
+      caller = fits_caller (is_caller x.errand) (subst (StageFits (is_caller x.errand)) is (tie.each f x s.there).stage)
 
   pub ends_make : (c : NamedCell) → LeavesCell e.cell x.stage c → Makes once e s.fs s.n f x.cell 0 answers.Done None (model.end f seen_future seen_cell) (Left c)
   ends_make c left = at x.stage refl left.leaves
@@ -501,25 +501,25 @@ module _ (once : Bool) (e : KeptCell) (f : ℕ) (x : FutureEntry) (s : Stands on
             (let none : length c.permit.wakes ≡ 0 = ap (λ (s : Core NamedWaker). length s.wakes) left_is ∙ quiet_length in let same : length c.permit.queue ≡ length (without_acquire permit.queue n) = ap (λ (s : Core NamedWaker). length s.queue) left_is in omega (arith, none, same, same_waits, length-without permit.queue n)))
       ]
       at Running is leaves = passes permit refl refl s.kept.quiet leaves (linked_gone permit.queue permit.granted its tie.linked f (unqueued once e s.fs tie f x s.there Running is (λ n same. absurd (cc)))) (out_of_queue Running is (λ n same. absurd (cc))) (ap is_polled is)
-      at Done is leaves = absurd (let fits_now = fits_any (is_caller x.job) x.stage (tie.each f x s.there).stage in subst (StageFits true) is fits_now)
+      at Done is leaves = absurd (let fits_now = fits_any (is_caller x.errand) x.stage (tie.each f x s.there).stage in subst (StageFits true) is fits_now)
 
 -- ---- the calls of the entry
-pub end_fits : (once : Bool) (e e2 : KeptCell) (f : ℕ) (x : FutureEntry) (c : NamedCell) (more : ℕ) → Stands once e f x → LeavesCell e.cell x.stage c → e2 ≡ finished (stopped (record e { cell = c }) f) x.job → more ≡ keeps e → keeps e2 + length e2.cell.permit.wakes ≤ more
+pub end_fits : (once : Bool) (e e2 : KeptCell) (f : ℕ) (x : FutureEntry) (c : NamedCell) (more : ℕ) → Stands once e f x → LeavesCell e.cell x.stage c → e2 ≡ finished (stopped (record e { cell = c }) f) x.errand → more ≡ keeps e → keeps e2 + length e2.cell.permit.wakes ≤ more
 end_fits once e e2 f x c more s left is all = rw (is, all) (let made = ends_make once e f x s c left in omega (arith, made.fit))
 
-pub end_steps : (once : Bool) (e e2 new : KeptCell) (f : ℕ) (x : FutureEntry) (c : NamedCell) (more : ℕ) (before after : Waking ℕ) (s : Stands once e f x) → LeavesCell e.cell x.stage c → e2 ≡ finished (stopped (record e { cell = c }) f) x.job → more ≡ keeps e → HandsOn e2 new more before after
+pub end_steps : (once : Bool) (e e2 new : KeptCell) (f : ℕ) (x : FutureEntry) (c : NamedCell) (more : ℕ) (before after : Waking ℕ) (s : Stands once e f x) → LeavesCell e.cell x.stage c → e2 ≡ finished (stopped (record e { cell = c }) f) x.errand → more ≡ keeps e → HandsOn e2 new more before after
     → Stepped once e s.fs s.n f x.cell None (model.end f (future_seen x) (cell_seen e)) answers.Done new before after
 end_steps once e e2 new f x c more before after s left is all hands =
     let exactly : more ≡ keeps e + 0 = omega (arith, all) in
     handed once e s.fs s.n f x.cell 0 answers.Done None (model.end f (future_seen x) (cell_seen e)) e2 new before before after (rw is (ends_make once e f x s c left)) (rw exactly at hands) refl (omega arith)
 
 -- a caller whose initialiser keeps no waker was polled
-pub polled_fits : (once : Bool) (e e2 : KeptCell) (f w : ℕ) (x : FutureEntry) (turn : CellTurn NamedWaker) (c : NamedCell) (t : CellStage) (told : PollReply) (more : ℕ) → Stands once e f x → is_caller x.job ≡ true → runs e.running f ≡ false
-    → TurnsCell e.cell x.stage (record { future = f; waker = w }) turn c t → Follows turn (record e { cell = c }) (record { future = f; waker = w }) x.job told e2 → more ≡ keeps e + 1 → keeps e2 + length e2.cell.permit.wakes ≤ more
+pub polled_fits : (once : Bool) (e e2 : KeptCell) (f w : ℕ) (x : FutureEntry) (turn : CellTurn NamedWaker) (c : NamedCell) (t : CellStage) (told : PollReply) (more : ℕ) → Stands once e f x → is_caller x.errand ≡ true → runs e.running f ≡ false
+    → TurnsCell e.cell x.stage (record { future = f; waker = w }) turn c t → Follows turn (record e { cell = c }) (record { future = f; waker = w }) x.errand told e2 → more ≡ keeps e + 1 → keeps e2 + length e2.cell.permit.wakes ≤ more
 polled_fits once e e2 f w x turn c t told more s caller idle turned_as follows all = rw all (polls_make once e f x s caller w idle turn c t turned_as told e2 follows).fit
 
-pub polled_steps : (once : Bool) (e e2 new : KeptCell) (f w : ℕ) (x y : FutureEntry) (turn : CellTurn NamedWaker) (c : NamedCell) (t : CellStage) (told : PollReply) (more : ℕ) (before ready after : Waking ℕ) (s : Stands once e f x) → is_caller x.job ≡ true → runs e.running f ≡ false
-    → TurnsCell e.cell x.stage (record { future = f; waker = w }) turn c t → Follows turn (record e { cell = c }) (record { future = f; waker = w }) x.job told e2 → (told.over ≡ false → y ≡ record x { stage = t }) → more ≡ keeps e + 1
+pub polled_steps : (once : Bool) (e e2 new : KeptCell) (f w : ℕ) (x y : FutureEntry) (turn : CellTurn NamedWaker) (c : NamedCell) (t : CellStage) (told : PollReply) (more : ℕ) (before ready after : Waking ℕ) (s : Stands once e f x) → is_caller x.errand ≡ true → runs e.running f ≡ false
+    → TurnsCell e.cell x.stage (record { future = f; waker = w }) turn c t → Follows turn (record e { cell = c }) (record { future = f; waker = w }) x.errand told e2 → (told.over ≡ false → y ≡ record x { stage = t }) → more ≡ keeps e + 1
     → ready ≡ record before { registered = before.registered + 1 } → HandsOn e2 new more ready after → Stepped once e s.fs s.n f x.cell (left_by told.over y) (model.poll f w (future_seen x) (cell_seen e)) told.answer new before after
 polled_steps once e e2 new f w x y turn c t told more before ready after s caller idle turned_as follows stays all grown hands =
     rw (same told.over stays) (handed once e s.fs s.n f x.cell 1 told.answer (left_by told.over (record x { stage = t })) (model.poll f w (future_seen x) (cell_seen e)) e2 new before ready after

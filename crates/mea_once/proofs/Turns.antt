@@ -17,8 +17,8 @@ use Rattle.mea_once_core.specs.declared.cell_stage.CellStage.TheVariants.{New, Q
 use Rattle.mea_once_core.specs.declared.cell_turn.CellTurn.{CellTurn}
 use Rattle.mea_once_core.specs.declared.cell_turn.CellTurn.TheVariants as turns
 use Rattle.mea_once_core.proofs.Onces.{count_same, woken_none}
-use Rattle.mea_once_model.specs.declared.job.Initialiser.{Initialiser}
-use Rattle.mea_once_model.specs.declared.job.Initialiser.TheVariants.{Unsettled, Gives, Fails}
+use Rattle.mea_once_model.specs.declared.errand.Initialiser.{Initialiser}
+use Rattle.mea_once_model.specs.declared.errand.Initialiser.TheVariants.{Unsettled, Gives, Fails}
 use Rattle.mea_once.specs.Cores.{TurnsTo, FindsFull, FindsLate, TakesFree, TakesNext, GoesOn, LinesUp, WaitsOn, TurnsCell, IsOnePermit, cell_seen, once_seen, answer_of}
 
 -- ---- what a scripted initialiser answered
@@ -91,9 +91,9 @@ module _ {T : Type 0} where
 pub permit_with : (s : Core NamedWaker) (ws : List NamedWaker) → IsOnePermit s → IsOnePermit (record s { wakes = ws })
 permit_with s ws is = record { one = is.one; asks = is.asks; apart = is.apart; granted_apart = is.granted_apart; total = is.total }
 
-pub values_turn : (stage after : CellStage) (c c' : Cell ℕ NamedWaker) (w : NamedWaker) (turn : CellTurn NamedWaker) → cells.IsSound c → cells.IsSound c' → MayPoll c.permit stage → PollsTurn stage c w (Ok turn) c' after → HoldsAs c.permit stage c'.permit after
+pub cells_turn : (stage after : CellStage) (c c' : Cell ℕ NamedWaker) (w : NamedWaker) (turn : CellTurn NamedWaker) → cells.IsSound c → cells.IsSound c' → MayPoll c.permit stage → PollsTurn stage c w (Ok turn) c' after → HoldsAs c.permit stage c'.permit after
     → TurnsCell (cell_seen c) stage w turn (cell_seen c') after
-values_turn stage after c c' w turn sound sound' may polls held =
+cells_turn stage after c c' w turn sound sound' may polls held =
     let told = turns_to stage c c' w turn after sound may polls in
     record { turns = told.0; rest = λ i. record { value = told.1 i; permit = c'.permit; waits = record { wakers = []; drains = 0 } }; held = held; sound = record { permit = as_one c'.permit sound'.permit; empty = sound'.empty } }
 

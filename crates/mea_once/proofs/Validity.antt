@@ -89,7 +89,7 @@ module _ (once : Bool) (e : KeptCell) (fs : Names FutureEntry) (kept : AreKept o
     turn_at Done is fits has = absurd fits
 
     turn_of : has_turn (cell_seen e) f (future_seen x) ≡ true → Turn x
-    turn_of has = turn_at x.stage refl (fits_any (is_caller x.job) x.stage (kept.tied.each f x there).stage) has
+    turn_of has = turn_at x.stage refl (fits_any (is_caller x.errand) x.stage (kept.tied.each f x there).stage) has
 
     -- so the permit is not free
     held_or_granted : Turn x → e.cell.permit.free ≡ 0
@@ -102,7 +102,7 @@ module _ (once : Bool) (e : KeptCell) (fs : Names FutureEntry) (kept : AreKept o
         let out : waits (cell_seen e).queue f ≡ false = unqueued_waits e.cell.permit.queue e.cell.permit.granted (seen acquire_of fs) kept.tied.linked f (unqueued once e fs kept.tied f x there Running is (λ n other. absurd (cc))) debtless in
         (λ j. is_polled (is j) && not (out j))
 
-    may_turn : (b : Bool) → is_alone x.job ≡ b → MayRun x → (has_turn (cell_seen e) f (future_seen x) ≡ true) ⊎ (is_alone x.job ≡ true)
+    may_turn : (b : Bool) → is_alone x.errand ≡ b → MayRun x → (has_turn (cell_seen e) f (future_seen x) ≡ true) ⊎ (is_alone x.errand ≡ true)
     may_turn true alone may = inr alone
     may_turn false shared may = inl (running_turn (sym (ap (λ b. cond b true (is_running x)) shared) ∙ may))
 
@@ -132,15 +132,15 @@ module _ (once : Bool) (e : KeptCell) (fs : Names FutureEntry) (kept : AreKept o
     one_turn (inr granted) (inl runs) = absurd (let held = running_held once e fs kept.tied g y at_g runs in let some = sum_without e.cell.permit.granted granted.0 1 granted.2 in omega (arith, all, held, some))
     one_turn (inr first) (inr second) = both_granted first.0 second.0 first.1 second.1 first.2 second.2 (first.0 == second.0) refl
 
-  runs_on : (r : Option NamedWaker) → e.running ≡ r → (f w : ℕ) → waker_for (runner_of r) f ≡ Some w → (x : CellFuture) × (get (seen future_seen fs) f ≡ Some x) × ((has_turn (cell_seen e) f x ≡ true) ⊎ (is_alone x.job ≡ true))
+  runs_on : (r : Option NamedWaker) → e.running ≡ r → (f w : ℕ) → waker_for (runner_of r) f ≡ Some w → (x : CellFuture) × (get (seen future_seen fs) f ≡ Some x) × ((has_turn (cell_seen e) f x ≡ true) ⊎ (is_alone x.errand ≡ true))
   runs_on None is f w runs = absurd (cc)
   runs_on (Some k) is f w runs = at (k.future == f) refl runs
     where
-      at : (b : Bool) → (k.future == f) ≡ b → cond b (Some k.waker) None ≡ Some w → (x : CellFuture) × (get (seen future_seen fs) f ≡ Some x) × ((has_turn (cell_seen e) f x ≡ true) ⊎ (is_alone x.job ≡ true))
+      at : (b : Bool) → (k.future == f) ≡ b → cond b (Some k.waker) None ≡ Some w → (x : CellFuture) × (get (seen future_seen fs) f ≡ Some x) × ((has_turn (cell_seen e) f x ≡ true) ⊎ (is_alone x.errand ≡ true))
       at true same it =
           let x = kept.tied.runner k is in
           let there : get fs f ≡ Some x.0 = ap (get fs) (sym (eqb-true k.future f same)) ∙ x.1 in
-          (future_seen x.0, seen-at future_seen fs f x.0 there, may_turn f x.0 there (is_alone x.0.job) refl x.2)
+          (future_seen x.0, seen-at future_seen fs f x.0 there, may_turn f x.0 there (is_alone x.0.errand) refl x.2)
       at false other it = absurd (cc)
 
   pub cell_valid : IsCell (cell_seen e) (seen future_seen fs)
@@ -160,7 +160,7 @@ module _ (once : Bool) (e : KeptCell) (fs : Names FutureEntry) (kept : AreKept o
     alone = λ f g y z at_f at_g alone.
         let x = seen-back future_seen fs f y at_f in
         let u = seen-back future_seen fs g z at_g in
-        kept.tied.single f g x.0 u.0 x.1 u.1 (ap (λ (v : CellFuture). is_alone v.job) x.2 ∙ alone);
+        kept.tied.single f g x.0 u.0 x.1 u.1 (ap (λ (v : CellFuture). is_alone v.errand) x.2 ∙ alone);
   }
 
 -- ---- all cells of a kind

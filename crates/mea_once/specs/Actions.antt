@@ -5,7 +5,7 @@ use Rattle.mea_once_model.specs.Actions.{Action}
 use Rattle.mea_once_model.specs.KeyActions as tables
 use Rattle.mea_once_model.specs.KeyActions.{KeyAction}
 use Rattle.mea_once_model.specs.Meaning as model
-use Rattle.mea_once_model.specs.Meaning.{on_onces, on_values, on_maps, on_groups}
+use Rattle.mea_once_model.specs.Meaning.{on_onces, on_cells, on_maps, on_groups}
 use Rattle.mea_once.specs.declared.actions.TurnAction.{TurnAction}
 use Rattle.mea_once.specs.declared.actions.TurnAction.TheVariants.{Make, Begin, Poll, Settle, End, TellFull, Tell, Drop}
 use Rattle.mea_once.specs.declared.actions.WholeAction.{WholeAction}
@@ -15,13 +15,13 @@ use Rattle.mea_once.specs.declared.actions.TableAction.TheVariants as table
 use Rattle.mea_once.specs.declared.actions.ValueAction.{ValueAction}
 use Rattle.mea_once.specs.declared.actions.ValueAction.TheVariants as value
 use Rattle.mea_once.specs.declared.meaning.Meaning.{Meaning}
-use Rattle.mea_once.specs.declared.meaning.Meaning.TheVariants.{Onces, Cells, Wholes, Maps, Values, Groups}
+use Rattle.mea_once.specs.declared.meaning.Meaning.TheVariants.{Onces, Cells, CellsAlone, Maps, MapsAlone, Groups}
 use Rattle.mea_once.specs.Parts.{fits, FitsSettled}
 
 -- what may be done to a call that runs once and to a cell
 abbrev pub turn_action : TurnAction → Action
 turn_action Make = cells.Make None
-turn_action (Begin o job) = cells.Begin o job
+turn_action (Begin o errand) = cells.Begin o errand
 turn_action (Poll f w) = cells.Poll f w
 turn_action (Settle f r) = cells.Settle f r
 turn_action (End f) = cells.End f
@@ -32,9 +32,7 @@ turn_action (Drop o) = cells.Drop o
 -- what is done to a cell alone
 abbrev pub whole_action : WholeAction → Action
 whole_action (whole.MakeFull v) = cells.Make (Some v)
-whole_action (whole.Peek o) = cells.Peek o
-whole_action (whole.Put o v) = cells.Put o v
-whole_action (whole.Take o) = cells.Take o
+whole_action (whole.Use o u) = cells.Use o u
 whole_action (whole.TakeOut o) = cells.TakeOut o
 
 -- what is done to a group, and may be done to a map
@@ -55,15 +53,15 @@ value_action (value.Remove o k) = tables.RemoveKey o k
 -- what a line means, in the words of the model
 abbrev pub meant : Meaning → model.Meaning
 meant (Onces a) = on_onces (turn_action a)
-meant (Cells a) = on_values (turn_action a)
-meant (Wholes a) = on_values (whole_action a)
+meant (Cells a) = on_cells (turn_action a)
+meant (CellsAlone a) = on_cells (whole_action a)
 meant (Maps a) = on_maps (table_action a)
-meant (Values a) = on_maps (value_action a)
+meant (MapsAlone a) = on_maps (value_action a)
 meant (Groups a) = on_groups (table_action a)
 
--- the jobs of a call that runs once are its own, and what its initialisers give tells nothing
+-- the errands of a call that runs once are its own, and what its initialisers give tells nothing
 abbrev pub FitsTurn : Bool → TurnAction → Type 0
-FitsTurn once (Begin o job) = fits once job ≡ true
+FitsTurn once (Begin o errand) = fits once errand ≡ true
 FitsTurn once (Settle f r) = FitsSettled once r
 FitsTurn once _ = Unit {0}
 

@@ -10,9 +10,9 @@ use Rattle.mea_sem_core.specs.Core.{core_code}
 use Rattle.mea_sets.specs.WaitSet.{registered_code}
 use Rattle.mea_once_core.specs.declared.cell_turn.CellTurn.{CellTurn}
 use Rattle.mea_once_core.specs.declared.cell_turn.CellTurn.TheVariants as turns
-use Rattle.mea_once_model.specs.declared.job.Initialiser.{Initialiser}
-use Rattle.mea_once_model.specs.declared.job.Initialiser.TheVariants.{Unsettled, Gives, Fails}
-use Rattle.mea_once_model.specs.declared.job.Job.{Job}
+use Rattle.mea_once_model.specs.declared.errand.Initialiser.{Initialiser}
+use Rattle.mea_once_model.specs.declared.errand.Initialiser.TheVariants.{Unsettled, Gives, Fails}
+use Rattle.mea_once_model.specs.declared.errand.Errand.{Errand}
 use Rattle.mea_once_model.specs.Cells.{init_of, is_alone, found_full, has_filled}
 use Rattle.mea_once.specs.declared.future_entry.FutureEntry.{FutureEntry}
 use Rattle.mea_once.specs.declared.poll_reply.PollReply.{PollReply}
@@ -37,12 +37,12 @@ kept_cell_code =
     (λ e. (e.cell, (e.running, (e.futures, e.alone)))) (λ p. record { cell = p.0; running = p.1.0; futures = p.1.1.0; alone = p.1.1.1 }) (λ _. refl)
 
 -- one future more
-abbrev pub begun : KeptCell → Job → KeptCell
-begun e job = record e { futures = e.futures + 1; alone = e.alone + cond (is_alone job) 1 0 }
+abbrev pub begun : KeptCell → Errand → KeptCell
+begun e errand = record e { futures = e.futures + 1; alone = e.alone + cond (is_alone errand) 1 0 }
 
 -- one less
-abbrev pub finished : KeptCell → Job → KeptCell
-finished e job = record e { futures = e.futures - 1; alone = e.alone - cond (is_alone job) 1 0 }
+abbrev pub finished : KeptCell → Errand → KeptCell
+finished e errand = record e { futures = e.futures - 1; alone = e.alone - cond (is_alone errand) 1 0 }
 
 -- whether the waker that is kept is that of f
 abbrev pub runs : Option NamedWaker → ℕ → Bool
@@ -83,18 +83,18 @@ abbrev pub over : Answer → PollReply
 over reply = record { answer = reply; over = true }
 
 -- the initialiser of a future whose turn it is ran
-abbrev pub Ran : Initialiser → KeptCell → NamedWaker → Job → PollReply → KeptCell → Type 0
-Ran Unsettled e k job told e' = (told ≡ pending) × (e' ≡ record e { running = Some k })
-Ran (Gives v) e k job told e' =
-    (c : NamedCell) × FillsCell e.cell v c × (told ≡ over (has_filled job v)) × (e' ≡ finished (stopped (record e { cell = c }) k.future) job)
-Ran (Fails x) e k job told e' =
-    (c : NamedCell) × GivesUpCell e.cell c × (told ≡ over (answers.Failure x)) × (e' ≡ finished (stopped (record e { cell = c }) k.future) job)
+abbrev pub Ran : Initialiser → KeptCell → NamedWaker → Errand → PollReply → KeptCell → Type 0
+Ran Unsettled e k errand told e' = (told ≡ pending) × (e' ≡ record e { running = Some k })
+Ran (Gives v) e k errand told e' =
+    (c : NamedCell) × FillsCell e.cell v c × (told ≡ over (has_filled errand v)) × (e' ≡ finished (stopped (record e { cell = c }) k.future) errand)
+Ran (Fails x) e k errand told e' =
+    (c : NamedCell) × GivesUpCell e.cell c × (told ≡ over (answers.Failure x)) × (e' ≡ finished (stopped (record e { cell = c }) k.future) errand)
 
 -- what follows from a poll for one's turn
-abbrev pub Follows : CellTurn NamedWaker → KeptCell → NamedWaker → Job → PollReply → KeptCell → Type 0
-Follows turns.Pending e k job told e' = (told ≡ pending) × (e' ≡ e)
-Follows turns.Full e k job told e' = (v : ℕ) × (e.cell.value ≡ Some v) × (told ≡ over (found_full job v)) × (e' ≡ finished (stopped e k.future) job)
-Follows (turns.Mine k') e k job told e' = Ran (init_of job) e k job told e'
+abbrev pub Follows : CellTurn NamedWaker → KeptCell → NamedWaker → Errand → PollReply → KeptCell → Type 0
+Follows turns.Pending e k errand told e' = (told ≡ pending) × (e' ≡ e)
+Follows turns.Full e k errand told e' = (v : ℕ) × (e.cell.value ≡ Some v) × (told ≡ over (found_full errand v)) × (e' ≡ finished (stopped e k.future) errand)
+Follows (turns.Mine k') e k errand told e' = Ran (init_of errand) e k errand told e'
 
 -- a future after a poll, if it is there
 abbrev pub left_by : Bool → FutureEntry → Option FutureEntry
@@ -102,9 +102,9 @@ left_by true x = None
 left_by false x = Some x
 
 -- the initialiser of a future that uses the cell alone ran, where that was empty
-abbrev pub RanAlone : Option ℕ → Initialiser → KeptCell → NamedWaker → Job → PollReply → KeptCell → Type 0
-RanAlone (Some v) r e k job told e' = (told ≡ over (found_full job v)) × (e' ≡ finished (stopped e k.future) job)
-RanAlone None Unsettled e k job told e' = (told ≡ pending) × (e' ≡ record e { running = Some k })
-RanAlone None (Gives v) e k job told e' =
-    (told ≡ over (found_full job v)) × (e' ≡ finished (stopped (record e { cell = record e.cell { value = Some v } }) k.future) job)
-RanAlone None (Fails x) e k job told e' = (told ≡ over (answers.Failure x)) × (e' ≡ finished (stopped e k.future) job)
+abbrev pub RanAlone : Option ℕ → Initialiser → KeptCell → NamedWaker → Errand → PollReply → KeptCell → Type 0
+RanAlone (Some v) r e k errand told e' = (told ≡ over (found_full errand v)) × (e' ≡ finished (stopped e k.future) errand)
+RanAlone None Unsettled e k errand told e' = (told ≡ pending) × (e' ≡ record e { running = Some k })
+RanAlone None (Gives v) e k errand told e' =
+    (told ≡ over (found_full errand v)) × (e' ≡ finished (stopped (record e { cell = record e.cell { value = Some v } }) k.future) errand)
+RanAlone None (Fails x) e k errand told e' = (told ≡ over (answers.Failure x)) × (e' ≡ finished (stopped e k.future) errand)

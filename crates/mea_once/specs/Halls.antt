@@ -10,36 +10,36 @@ use Rattle.mea_once_model.specs.Actions.{Action, Make, Begin, Poll, act_in}
 use Rattle.mea_once_model.specs.Tables as tables
 use Rattle.mea_once_model.specs.Tables.{Tables}
 use Rattle.mea_once_model.specs.KeyActions.{KeyAction, MakeTable, BeginKey, PollKey, key_act}
-use Rattle.mea_once_model.specs.OnceHall.{OnceHall, Kind, Onces, Values, TableKind, Maps, Groups, is_once}
+use Rattle.mea_once_model.specs.OnceHall.{OnceHall, Kind, Onces, OnceCells, TableKind, Maps, Groups, is_once}
 use Rattle.mea_once_model.specs.Meaning.{Meaning, OfCells, OfTables, meaning_of}
 
 -- the calls that run once, the cells, the maps and the groups, each with the least number that its next event may have
 pub record Parts : Type 0 where
   pub onces : Part Cells
-  pub values : Part Cells
+  pub cells : Part Cells
   pub maps : Part Tables
   pub groups : Part Tables
 
 abbrev pub parts : Part Cells → Part Cells → Part Tables → Part Tables → Parts
-parts o v m g = record { onces = o; values = v; maps = m; groups = g }
+parts o v m g = record { onces = o; cells = v; maps = m; groups = g }
 
 abbrev pub hall_of : Parts → OnceHall
-hall_of p = record { onces = p.onces.hall; values = p.values.hall; maps = p.maps.hall; groups = p.groups.hall }
+hall_of p = record { onces = p.onces.hall; cells = p.cells.hall; maps = p.maps.hall; groups = p.groups.hall }
 
 -- no next number is above n
 pub record AreBelow (p : Parts) (n : ℕ) : Type 0 where
   pub onces : p.onces.next ≤ n
-  pub values : p.values.next ≤ n
+  pub cells : p.cells.next ≤ n
   pub maps : p.maps.next ≤ n
   pub groups : p.groups.next ≤ n
 
 abbrev pub of_kind : Parts → Kind → Part Cells
 of_kind p Onces = p.onces
-of_kind p Values = p.values
+of_kind p OnceCells = p.cells
 
 abbrev pub with_kind : Parts → Kind → Part Cells → Parts
 with_kind p Onces c = record p { onces = c }
-with_kind p Values c = record p { values = c }
+with_kind p OnceCells c = record p { cells = c }
 
 abbrev pub of_table_kind : Parts → TableKind → Part Tables
 of_table_kind p Maps = p.maps
@@ -68,7 +68,7 @@ PlaysBy (OfTables d) old i answer new before after = PlaysTables old d.kind i d.
 -- the actions that take no memory
 abbrev pub IsFree : Action → Type 0
 IsFree (Make v) = ⊥
-IsFree (Begin o job) = ⊥
+IsFree (Begin o errand) = ⊥
 IsFree (Poll f w) = ⊥
 IsFree _ = Unit {0}
 

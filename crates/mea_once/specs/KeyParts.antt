@@ -15,7 +15,7 @@ use Rattle.mea_once_core.specs.Table.{Table as CoreTable, entry_at, number_of}
 use Rattle.mea_once_core.specs.Waiting.{waiting_at, waiting_in}
 use Rattle.mea_once_core.specs.declared.key_call.KeyStage.TheVariants as key_stages
 use Rattle.mea_once_core.specs.declared.cell_stage.CellStage.TheVariants as stages
-use Rattle.mea_once_model.specs.declared.job.Job.TheVariants.{Computes}
+use Rattle.mea_once_model.specs.declared.errand.Errand.TheVariants.{Computes}
 use Rattle.mea_once_model.specs.Cells.{Cell, new_cell}
 pub use Rattle.mea_once_model.specs.Valid.{slot_of}
 use Rattle.mea_once_model.specs.Tables.{Table, KeyFuture as ModelFuture, Tables, KeyStep, is_this, others_of, applied}
@@ -65,7 +65,7 @@ tables_seen es fs = record { tables = seen table_seen es; futures = seen key_fut
 -- ---- what a map or a group keeps to, with its own futures
 -- a future of a round, as one of the round's cell
 abbrev pub as_caller : KeyFuture → FutureEntry
-as_caller x = record { cell = x.table; job = Computes x.call.call.init.outcome; stage = x.call.call.stage; wait = None }
+as_caller x = record { cell = x.table; errand = Computes x.call.call.init.outcome; stage = x.call.call.stage; wait = None }
 
 abbrev pub of_round : KeyFuture → ℕ
 of_round x = slot_of x.round

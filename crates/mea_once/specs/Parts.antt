@@ -1,8 +1,9 @@
 -- the cells of one kind as the hall keeps them: what is seen of them, and what they keep to
-use Rattle.std.specs.Prelude.{ℕ, ◌≡◌, ◌+◌, ◌≤◌, ◌<◌, ◌==◌, ◌++◌, Bool, true, false, cond, [], ◌∷◌, Option, Some, None}
+use Rattle.std.specs.Prelude.{ℕ, ◌≡◌, ◌+◌, ◌≤◌, ◌<◌, ◌==◌, ◌++◌, Bool, true, false, cond, [], ◌∷◌, Option, Some, None, Result, Ok, Err}
 use Rattle.std.specs.Option.{option_map}
 use Rattle.std.specs.FinMap.{get, len, insert, remove, empty}
 use Rattle.mea_family.specs.declared.answer.Answer.{Answer}
+use Rattle.mea_base.specs.declared.no_memory.NoMemory.{NoMemory}
 use Rattle.mea_base.specs.Ready.{Waking}
 use Rattle.mea_by_name.specs.declared.named_waker.NamedWaker.{NamedWaker}
 use Rattle.mea_by_name.specs.ByName.{Names, seen, count}
@@ -17,14 +18,15 @@ use Rattle.mea_cores_by_name.specs.Linked.{names_in, Linked}
 use Rattle.mea_cores_by_name.specs.SetLinked.{set_names, SlotIs, AreBelow}
 use Rattle.mea_once_core.specs.declared.cell_stage.CellStage.{CellStage}
 use Rattle.mea_once_core.specs.declared.cell_stage.CellStage.TheVariants.{New, Queued, Running, Done}
-use Rattle.mea_once_model.specs.declared.job.Initialiser.{Initialiser}
-use Rattle.mea_once_model.specs.declared.job.Initialiser.TheVariants.{Unsettled, Gives, Fails}
-use Rattle.mea_once_model.specs.declared.job.Job.{Job}
-use Rattle.mea_once_model.specs.declared.job.Job.TheVariants.{Calls, Computes, Alone, Sets, Inserts, Awaits}
-use Rattle.mea_once_model.specs.Cells.{Cell, CellFuture, Cells, Step, is_alone}
+use Rattle.mea_once_model.specs.declared.errand.Initialiser.{Initialiser}
+use Rattle.mea_once_model.specs.declared.errand.Initialiser.TheVariants.{Unsettled, Gives, Fails}
+use Rattle.mea_once_model.specs.declared.errand.Errand.{Errand}
+use Rattle.mea_once_model.specs.declared.errand.Errand.TheVariants.{Calls, Computes, Alone, Sets, Inserts, Awaits}
+use Rattle.mea_once_model.specs.Cells.{Cell, CellFuture, Cells, Step, is_alone, poll}
 use Rattle.mea_once.specs.declared.future_entry.FutureEntry.{FutureEntry}
+use Rattle.mea_once.specs.declared.poll_reply.PollReply.{PollReply}
 use Rattle.mea_once.specs.Cores.{NamedCell, IsSoundCell}
-use Rattle.mea_once.specs.Entries.{KeptCell, keeps}
+use Rattle.mea_once.specs.Entries.{KeptCell, keeps, left_by}
 
 -- ---- what is seen of each thing
 abbrev pub is_polled : CellStage → Bool
@@ -48,14 +50,14 @@ cell_seen e =
     }
 
 abbrev pub future_seen : FutureEntry → CellFuture
-future_seen x = record { cell = x.cell; job = x.job; polled = is_polled x.stage }
+future_seen x = record { cell = x.cell; errand = x.errand; polled = is_polled x.stage }
 
 abbrev pub cells_seen : Names KeptCell → Names FutureEntry → Cells
 cells_seen es fs = record { cells = seen cell_seen es; futures = seen future_seen fs }
 
 -- ---- what is kept to
 -- who asks for its turn, and neither waits for the cell nor uses it alone
-abbrev pub is_caller : Job → Bool
+abbrev pub is_caller : Errand → Bool
 is_caller (Calls r) = true
 is_caller (Computes r) = true
 is_caller (Alone r) = false
@@ -63,7 +65,7 @@ is_caller (Sets v) = true
 is_caller (Inserts v) = true
 is_caller Awaits = false
 
-abbrev pub is_wait : Job → Bool
+abbrev pub is_wait : Errand → Bool
 is_wait Awaits = true
 is_wait _ = false
 
@@ -73,7 +75,7 @@ gives_nothing (Gives v) = v == 0
 gives_nothing (Fails e) = true
 
 -- what the futures of a call that runs once do, and those of a cell
-abbrev pub fits : Bool → Job → Bool
+abbrev pub fits : Bool → Errand → Bool
 fits once (Calls r) = cond once (gives_nothing r) false
 fits once (Computes r) = cond once false true
 fits once (Alone r) = cond once false true
@@ -112,15 +114,15 @@ StageFits false Running = ⊥
 StageFits false Done = ⊥
 
 pub record IsFuture (once : Bool) (waits : Registered NamedWaker) (f : ℕ) (x : FutureEntry) : Type 0 where
-  pub fits : fits once x.job ≡ true
-  pub stage : StageFits (is_caller x.job) x.stage
+  pub fits : fits once x.errand ≡ true
+  pub stage : StageFits (is_caller x.errand) x.stage
   pub slot : SlotIs waits f x.wait
   -- who does not wait until the cell is full has no place among those who do
-  pub place : is_wait x.job ≡ false → x.wait ≡ None
+  pub place : is_wait x.errand ≡ false → x.wait ≡ None
 
 -- it may have an initialiser that was polled
 abbrev pub MayRun : FutureEntry → Type 0
-MayRun x = cond (is_alone x.job) true (is_running x) ≡ true
+MayRun x = cond (is_alone x.errand) true (is_running x) ≡ true
 
 -- a cell and its futures go together
 pub record Tied (once : Bool) (e : KeptCell) (fs : Names FutureEntry) : Type 0 where
@@ -129,9 +131,9 @@ pub record Tied (once : Bool) (e : KeptCell) (fs : Names FutureEntry) : Type 0 w
   pub runner : (k : NamedWaker) → e.running ≡ Some k → (x : FutureEntry) × (get fs k.future ≡ Some x) × MayRun x
   pub each : (f : ℕ) (x : FutureEntry) → get fs f ≡ Some x → IsFuture once e.cell.waits f x
   -- who uses the cell alone is alone
-  pub single : (f g : ℕ) (x y : FutureEntry) → get fs f ≡ Some x → get fs g ≡ Some y → is_alone x.job ≡ true → f ≡ g
+  pub single : (f g : ℕ) (x y : FutureEntry) → get fs f ≡ Some x → get fs g ≡ Some y → is_alone x.errand ≡ true → f ≡ g
   pub futures : e.futures ≡ len fs
-  pub alone : e.alone ≡ count (λ (x : FutureEntry). is_alone x.job) fs
+  pub alone : e.alone ≡ count (λ (x : FutureEntry). is_alone x.errand) fs
 
 pub record AreKept (once : Bool) (e : KeptCell) (fs : Names FutureEntry) : Type 0 where
   pub sound : IsSoundCell e.cell
@@ -168,6 +170,12 @@ pub record Stepped (once : Bool) (old : KeptCell) (fs : Names FutureEntry) (n f 
   pub kept : AreKept once new (turned_to fs f p)
   pub few : new.futures ≤ old.futures + 1
   pub low : AreBelow new.cell.waits.wakers n
+
+-- a poll of the future f with this waker: it made the step of the model, and told of it; or it wants memory, and nothing has changed
+abbrev pub PollsCell : Bool → KeptCell → ℕ → FutureEntry → ℕ → Waking ℕ → Result PollReply NoMemory → KeptCell → FutureEntry → Waking ℕ → Type 0
+PollsCell once e f x w before (Ok told) e' x' after =
+    (s : Stands once e f x) → Stepped once e s.fs s.n f x.cell (left_by told.over x') (poll f w (future_seen x) (cell_seen e)) told.answer e' before after
+PollsCell once e f x w before (Err none) e' x' after = (e' ≡ e) × (x' ≡ x) × (after ≡ before)
 
 abbrev pub of_future : FutureEntry → ℕ
 of_future x = x.cell

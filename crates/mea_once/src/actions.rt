@@ -1,12 +1,12 @@
-use mea_once_model::{Initialiser, Job};
+use mea_once_model::{Errand, Initialiser, WholeUse};
 
 /// What a line may do to a call that runs once and to a cell. In each action `o` is its name, and `f` that of a future.
 #[derive(Clone, Copy)]
 pub enum TurnAction {
     /// Makes an empty one.
     Make,
-    /// Makes a future that does this: `o`, job.
-    Begin(u64, Job),
+    /// Makes a future that does this: `o`, errand.
+    Begin(u64, Errand),
     /// Polls a future: `f`, waker.
     Poll(u64, u64),
     /// Settles the initialiser of a future: `f`, what it comes to.
@@ -26,12 +26,8 @@ pub enum TurnAction {
 pub enum WholeAction {
     /// Makes a cell with this value.
     MakeFull(u64),
-    /// Tells the value of a cell that has no future.
-    Peek(u64),
-    /// Writes it: `o`, value.
-    Put(u64, u64),
-    /// Takes it out.
-    Take(u64),
+    /// Uses the value of a cell that has no future: `o`, what is done to it.
+    Use(u64, WholeUse),
     /// Takes it out, and the cell is gone.
     TakeOut(u64),
 }

@@ -1,26 +1,20 @@
-ghost use Rattle.std.specs.Prelude.{ℕ, ◌≡◌, ◌+◌, ◌-◌, ◌<◌, ◌≤◌, ◌^◌, ◌++◌, [], nat_lt, length, map, cond, true, false, is_some, Some, None, IfOk, OnErr, if◌then◌else◌};
+ghost use Rattle.std.specs.Prelude.{ℕ, ◌≡◌, ◌+◌, ◌-◌, ◌<◌, ◌≤◌, ◌^◌, ◌++◌, [], nat_lt, length, map, cond, true, false, Some, None, if◌then◌else◌};
 ghost use Rattle.mea_sem_core.specs.Core.{held_of};
-ghost use Rattle.mea_once_model.specs.Cells.{init_of, is_alone, settled, poll, settle, end};
+ghost use Rattle.mea_once_model.specs.Cells.{init_of, is_alone, settled, settle, end, value_after, reply_to};
 ghost use Rattle.mea_once.specs.Cores.{IsSoundCell, TurnFits, TurnIsQuiet};
-ghost use Rattle.mea_once.specs.Parts.{cell_seen, future_seen, fits, is_caller, is_wait, Stands, Stepped};
+ghost use Rattle.mea_once.specs.Parts.{cell_seen, future_seen, fits, is_caller, is_wait, Stands, Stepped, PollsCell};
 
+use crate::errands::{found_full, has_filled, is_alone, one_if_alone, settled};
 use crate::future_entry::FutureEntry;
-use crate::jobs::{found_full, has_filled, is_alone, is_wait, one_if_alone, settled};
-use crate::poll_reply::PollReply;
+use crate::poll_reply::{PENDING, PollReply};
 use crate::scripted::Scripted;
 use crate::turn_core::{TurnCore, WaitCore, WholeCore};
 use mea_base::{NoMemory, Poll, Ready};
 use mea_by_name::NamedWaker;
 use mea_family::Answer;
 use mea_once_core::{CellTurn, Init};
-use mea_once_model::{Initialiser, Job};
+use mea_once_model::{Errand, Initialiser, WholeUse};
 use std::marker::Model;
-
-// A poll that goes on waiting.
-const PENDING: PollReply = PollReply {
-    answer: Answer::Pending,
-    over: false,
-};
 
 /// What a hall keeps of a cell.
 #[derive(Drop)]
@@ -44,7 +38,7 @@ impl<C: TurnCore> Model for CellEntry<C> {
 }
 
 impl<C: TurnCore> CellEntry<C> {
-    ghost use Rattle.mea_once.specs.Entries.{begun, finished, stopped, waking, runs, of_running, keeps, HandsOn, Ran, Follows, left_by};
+    ghost use Rattle.mea_once.specs.Entries.{begun, finished, stopped, waking, runs, of_running, keeps, HandsOn, Ran, Follows};
 
     /// A cell that has no future.
     pub fn new(core: C) -> Self
@@ -80,10 +74,10 @@ impl<C: TurnCore> CellEntry<C> {
     }
 
     /// Whether a future of it is in the way of a new one that does this.
-    pub fn is_closed_to(&self, job: Job) -> bool
-        ensures { result ≡ nat_lt 0 (if is_alone job then self.now.futures else self.now.alone) }
+    pub fn is_closed_to(&self, errand: Errand) -> bool
+        ensures { result ≡ nat_lt 0 (if is_alone errand then self.now.futures else self.now.alone) }
     {
-        if is_alone(job) {
+        if is_alone(errand) {
             self.has_futures()
         } else {
             self.is_alone()
@@ -91,26 +85,26 @@ impl<C: TurnCore> CellEntry<C> {
     }
 
     /// One future more.
-    pub fn begin(&mut self, job: Job)
+    pub fn begin(&mut self, errand: Errand)
         requires futures { self.old.futures + 1 < 2 ^ 128 }
         requires alone { self.old.alone + 1 < 2 ^ 128 }
-        ensures { self.new ≡ begun self.old job }
+        ensures { self.new ≡ begun self.old errand }
     {
         self.futures += 1;
-        self.alone += one_if_alone(job);
+        self.alone += one_if_alone(errand);
     }
 
     // One future less, named `f`, whose initialiser keeps no waker any more.
-    fn finish(&mut self, f: u64, job: Job)
+    fn finish(&mut self, f: u64, errand: Errand)
         requires futures { 1 ≤ self.old.futures }
-        requires alone { cond (is_alone job) 1 0 ≤ self.old.alone }
-        ensures { self.new ≡ finished (stopped self.old f) job }
+        requires alone { cond (is_alone errand) 1 0 ≤ self.old.alone }
+        ensures { self.new ≡ finished (stopped self.old f) errand }
     {
         if self.runs(f) {
             self.running = None;
         }
         self.futures -= 1;
-        self.alone -= one_if_alone(job);
+        self.alone -= one_if_alone(errand);
     }
 
     // Whether the initialiser of `f` keeps a waker.
@@ -150,29 +144,29 @@ impl<C: TurnCore> CellEntry<C> {
     // The initialiser of the future whose turn it is runs.
     fn run(&mut self, future: &mut FutureEntry, waker: NamedWaker) -> PollReply
         requires held { 1 ≤ held_of self.old.cell.permit }
-        requires fits { fits C.is_once future.old.job ≡ true }
+        requires fits { fits C.is_once future.old.errand ≡ true }
         requires quiet { self.old.cell.permit.wakes ≡ [] }
         requires futures { 1 ≤ self.old.futures }
-        requires alone { cond (is_alone future.old.job) 1 0 ≤ self.old.alone }
-        ensures ran { Ran (init_of future.old.job) self.old waker future.old.job result self.new }
+        requires alone { cond (is_alone future.old.errand) 1 0 ≤ self.old.alone }
+        ensures ran { Ran (init_of future.old.errand) self.old waker future.old.errand result self.new }
         ensures stays { result.over ≡ false → future.new ≡ future.old }
     {
-        match Scripted::new(future.job).poll(waker) {
+        match Scripted::new(future.errand).poll(waker) {
             Poll::Pending => {
                 self.running = Some(waker);
                 PENDING
             }
             Poll::Ready(Ok(value)) => {
                 self.core.fill(&mut future.stage, value);
-                self.finish(waker.future, future.job);
+                self.finish(waker.future, future.errand);
                 PollReply {
-                    answer: has_filled(future.job, value),
+                    answer: has_filled(future.errand, value),
                     over: true,
                 }
             }
             Poll::Ready(Err(error)) => {
                 self.core.give_up(&mut future.stage);
-                self.finish(waker.future, future.job);
+                self.finish(waker.future, future.errand);
                 PollReply {
                     answer: Answer::Failure(error),
                     over: true,
@@ -189,11 +183,11 @@ impl<C: TurnCore> CellEntry<C> {
         waker: NamedWaker,
     ) -> PollReply
         requires turn { TurnFits turn self.old.cell }
-        requires fits { fits C.is_once future.old.job ≡ true }
+        requires fits { fits C.is_once future.old.errand ≡ true }
         requires quiet { TurnIsQuiet turn self.old.cell }
         requires futures { 1 ≤ self.old.futures }
-        requires alone { cond (is_alone future.old.job) 1 0 ≤ self.old.alone }
-        ensures follows { Follows turn self.old waker future.old.job result self.new }
+        requires alone { cond (is_alone future.old.errand) 1 0 ≤ self.old.alone }
+        ensures follows { Follows turn self.old waker future.old.errand result self.new }
         ensures stays { result.over ≡ false → future.new ≡ future.old }
     {
         match turn {
@@ -202,9 +196,9 @@ impl<C: TurnCore> CellEntry<C> {
                 let Some(value) = self.core.value() else {
                     unreachable!()
                 };
-                self.finish(waker.future, future.job);
+                self.finish(waker.future, future.errand);
                 PollReply {
-                    answer: found_full(future.job, value),
+                    answer: found_full(future.errand, value),
                     over: true,
                 }
             }
@@ -212,8 +206,8 @@ impl<C: TurnCore> CellEntry<C> {
         }
     }
 
-    // Polls a caller, which is named `f`. On an error nothing has changed.
-    fn poll_call(
+    /// Polls a caller, which is named `f`. On an error nothing has changed.
+    pub fn poll_call(
         &mut self,
         f: u64,
         future: &mut FutureEntry,
@@ -221,12 +215,9 @@ impl<C: TurnCore> CellEntry<C> {
         ready: &mut Ready<u64>,
     ) -> Result<PollReply, NoMemory>
         requires stands { Stands C.is_once self.old f future.old }
-        requires caller { is_caller future.old.job ≡ true }
+        requires caller { is_caller future.old.errand ≡ true }
         requires room { keeps self.old ≤ ready.old.registered }
-        ensures steps { IfOk result (λ told. (s : Stands C.is_once self.old f future.old) →
-            Stepped C.is_once self.old s.fs s.n f future.old.cell (left_by told.over future.new)
-            (poll f waker (future_seen future.old) (cell_seen self.old)) told.answer self.new ready.old ready.new) }
-        ensures err { OnErr result ((self.new ≡ self.old) × (future.new ≡ future.old) × (ready.new ≡ ready.old)) }
+        ensures { PollsCell C.is_once self.old f future.old waker ready.old result self.new future.new ready.new }
     {
         let named = NamedWaker { future: f, waker };
         if self.runs(f) {
@@ -270,13 +261,13 @@ impl<C: TurnCore> CellEntry<C> {
         ready: &mut Ready<u64>,
     )
         requires room { keeps self.old ≤ ready.old.registered }
-        requires fits { fits C.is_once (settled outcome future.old.job) ≡ true }
+        requires fits { fits C.is_once (settled outcome future.old.errand) ≡ true }
         ensures { (s : Stands C.is_once self.old f future.old) →
             Stepped C.is_once self.old s.fs s.n f future.old.cell (Some future.new)
             (settle f outcome (future_seen future.old) (cell_seen self.old)) Answer.Done self.new ready.old ready.new }
     {
         self.wake_kept(f, ready);
-        future.job = settled(future.job, outcome);
+        future.errand = settled(future.errand, outcome);
     }
 
     /// Ends a future, which is named `f`.
@@ -288,7 +279,7 @@ impl<C: TurnCore> CellEntry<C> {
     {
         let more = self.keeps(ready);
         self.core.leave(future.stage);
-        self.finish(f, future.job);
+        self.finish(f, future.errand);
         self.hand_on(more, ready);
     }
 }
@@ -304,21 +295,21 @@ fn wait_told(over: bool) -> PollReply
 }
 
 impl<C: WaitCore> CellEntry<C> {
-    ghost use Rattle.mea_once.specs.Entries.{finished, stopped, keeps, left_by};
+    ghost use Rattle.mea_once.specs.Entries.{finished, stopped, keeps};
 
     // One future less, where it is over.
-    fn finish_if(&mut self, f: u64, job: Job, over: bool)
+    fn finish_if(&mut self, f: u64, errand: Errand, over: bool)
         requires futures { 1 ≤ self.old.futures }
-        requires alone { cond (is_alone job) 1 0 ≤ self.old.alone }
-        ensures { self.new ≡ cond over (finished (stopped self.old f) job) self.old }
+        requires alone { cond (is_alone errand) 1 0 ≤ self.old.alone }
+        ensures { self.new ≡ cond over (finished (stopped self.old f) errand) self.old }
     {
         if over {
-            self.finish(f, job);
+            self.finish(f, errand);
         }
     }
 
-    /// Polls a future, which is named `f`: a wait, or a caller. On an error nothing has changed.
-    pub fn poll_wait_or_call(
+    /// Polls a wait, which is named `f`. On an error nothing has changed.
+    pub fn poll_wait(
         &mut self,
         f: u64,
         future: &mut FutureEntry,
@@ -326,34 +317,9 @@ impl<C: WaitCore> CellEntry<C> {
         ready: &mut Ready<u64>,
     ) -> Result<PollReply, NoMemory>
         requires stands { Stands C.TurnCore.is_once self.old f future.old }
+        requires wait { is_wait future.old.errand ≡ true }
         requires room { keeps self.old ≤ ready.old.registered }
-        ensures steps { IfOk result (λ told. (s : Stands C.TurnCore.is_once self.old f future.old) →
-            Stepped C.TurnCore.is_once self.old s.fs s.n f future.old.cell (left_by told.over future.new)
-            (poll f waker (future_seen future.old) (cell_seen self.old)) told.answer self.new ready.old ready.new) }
-        ensures err { OnErr result ((self.new ≡ self.old) × (future.new ≡ future.old) × (ready.new ≡ ready.old)) }
-    {
-        if is_wait(future.job) {
-            self.poll_wait(f, future, waker, ready)
-        } else {
-            self.poll_call(f, future, waker, ready)
-        }
-    }
-
-    // Polls a wait, which is named `f`. On an error nothing has changed.
-    fn poll_wait(
-        &mut self,
-        f: u64,
-        future: &mut FutureEntry,
-        waker: u64,
-        ready: &mut Ready<u64>,
-    ) -> Result<PollReply, NoMemory>
-        requires stands { Stands C.TurnCore.is_once self.old f future.old }
-        requires wait { is_wait future.old.job ≡ true }
-        requires room { keeps self.old ≤ ready.old.registered }
-        ensures steps { IfOk result (λ told. (s : Stands C.TurnCore.is_once self.old f future.old) →
-            Stepped C.TurnCore.is_once self.old s.fs s.n f future.old.cell (left_by told.over future.new)
-            (poll f waker (future_seen future.old) (cell_seen self.old)) told.answer self.new ready.old ready.new) }
-        ensures err { OnErr result ((self.new ≡ self.old) × (future.new ≡ future.old) × (ready.new ≡ ready.old)) }
+        ensures { PollsCell C.TurnCore.is_once self.old f future.old waker ready.old result self.new future.new ready.new }
     {
         let Ok(()) = ready.register() else {
             return Err(NoMemory);
@@ -366,25 +332,25 @@ impl<C: WaitCore> CellEntry<C> {
             ready.unregister(1);
             return Err(NoMemory);
         };
-        self.finish_if(f, future.job, over);
+        self.finish_if(f, future.errand, over);
         self.hand_on(more, ready);
         Ok(wait_told(over))
     }
 }
 
 impl<C: WholeCore> CellEntry<C> {
-    ghost use Rattle.mea_once.specs.Entries.{keeps, left_by, RanAlone};
+    ghost use Rattle.mea_once.specs.Entries.{keeps, RanAlone};
 
     // The initialiser of a future that uses the cell alone runs, where that is empty.
-    fn run_alone(&mut self, job: Job, waker: NamedWaker) -> PollReply
+    fn run_alone(&mut self, errand: Errand, waker: NamedWaker) -> PollReply
         requires free { self.old.cell.permit.free ≡ 1 }
         requires futures { 1 ≤ self.old.futures }
-        requires alone { cond (is_alone job) 1 0 ≤ self.old.alone }
-        ensures ran { RanAlone self.old.cell.value (init_of job) self.old waker job result self.new }
+        requires alone { cond (is_alone errand) 1 0 ≤ self.old.alone }
+        ensures ran { RanAlone self.old.cell.value (init_of errand) self.old waker errand result self.new }
         ensures sound { IsSoundCell self.new.cell }
         ensures nobody { length self.old.cell.waits.wakers ≡ 0 }
     {
-        match self.core.poll_alone(&mut Scripted::new(job), waker) {
+        match self.core.poll_alone(&mut Scripted::new(errand), waker) {
             Poll::Pending => {
                 self.running = Some(waker);
                 PENDING
@@ -393,14 +359,14 @@ impl<C: WholeCore> CellEntry<C> {
                 let Some(value) = self.core.value() else {
                     unreachable!()
                 };
-                self.finish(waker.future, job);
+                self.finish(waker.future, errand);
                 PollReply {
-                    answer: found_full(job, value),
+                    answer: found_full(errand, value),
                     over: true,
                 }
             }
             Poll::Ready(Err(error)) => {
-                self.finish(waker.future, job);
+                self.finish(waker.future, errand);
                 PollReply {
                     answer: Answer::Failure(error),
                     over: true,
@@ -409,8 +375,8 @@ impl<C: WholeCore> CellEntry<C> {
         }
     }
 
-    /// Polls a future, which is named `f`: one that uses the cell alone, or a caller. On an error nothing has changed.
-    pub fn poll_alone_or_call(
+    /// Polls a future that uses the cell alone, which is named `f`. On an error nothing has changed.
+    pub fn poll_alone(
         &mut self,
         f: u64,
         future: &mut FutureEntry,
@@ -418,34 +384,9 @@ impl<C: WholeCore> CellEntry<C> {
         ready: &mut Ready<u64>,
     ) -> Result<PollReply, NoMemory>
         requires stands { Stands C.TurnCore.is_once self.old f future.old }
+        requires alone { is_alone future.old.errand ≡ true }
         requires room { keeps self.old ≤ ready.old.registered }
-        ensures steps { IfOk result (λ told. (s : Stands C.TurnCore.is_once self.old f future.old) →
-            Stepped C.TurnCore.is_once self.old s.fs s.n f future.old.cell (left_by told.over future.new)
-            (poll f waker (future_seen future.old) (cell_seen self.old)) told.answer self.new ready.old ready.new) }
-        ensures err { OnErr result ((self.new ≡ self.old) × (future.new ≡ future.old) × (ready.new ≡ ready.old)) }
-    {
-        if is_alone(future.job) {
-            self.poll_alone(f, future, waker, ready)
-        } else {
-            self.poll_call(f, future, waker, ready)
-        }
-    }
-
-    // Polls a future that uses the cell alone, which is named `f`. On an error nothing has changed.
-    fn poll_alone(
-        &mut self,
-        f: u64,
-        future: &mut FutureEntry,
-        waker: u64,
-        ready: &mut Ready<u64>,
-    ) -> Result<PollReply, NoMemory>
-        requires stands { Stands C.TurnCore.is_once self.old f future.old }
-        requires alone { is_alone future.old.job ≡ true }
-        requires room { keeps self.old ≤ ready.old.registered }
-        ensures steps { IfOk result (λ told. (s : Stands C.TurnCore.is_once self.old f future.old) →
-            Stepped C.TurnCore.is_once self.old s.fs s.n f future.old.cell (left_by told.over future.new)
-            (poll f waker (future_seen future.old) (cell_seen self.old)) told.answer self.new ready.old ready.new) }
-        ensures err { OnErr result ((self.new ≡ self.old) × (future.new ≡ future.old) × (ready.new ≡ ready.old)) }
+        ensures { PollsCell C.TurnCore.is_once self.old f future.old waker ready.old result self.new future.new ready.new }
     {
         let named = NamedWaker { future: f, waker };
         if self.runs(f) {
@@ -457,39 +398,19 @@ impl<C: WholeCore> CellEntry<C> {
         };
         let _room = ready.registered();
         let more = self.keeps(ready) + 1;
-        let told = self.run_alone(future.job, named);
+        let told = self.run_alone(future.errand, named);
         self.hand_on(more, ready);
         Ok(told)
     }
 
-    /// The value, for who uses the whole cell.
-    pub fn peek(&mut self) -> Option<u64>
+    /// Uses the value, for who has the whole cell, and replies.
+    pub fn use_whole(&mut self, what: WholeUse) -> Answer
         requires { self.old.cell.permit.free ≡ 1 }
-        ensures value { result ≡ self.old.cell.value }
-        ensures same { self.new ≡ self.old }
-    {
-        self.core.whole_value()
-    }
-
-    /// Writes the value where there is one, and tells whether there is.
-    pub fn put(&mut self, value: u64) -> bool
-        requires { self.old.cell.permit.free ≡ 1 }
-        ensures told { result ≡ is_some self.old.cell.value }
-        ensures full { result ≡ true → self.new ≡ record self.old { cell = record self.old.cell { value = Some value } } }
-        ensures empty { is_some self.old.cell.value ≡ false → self.new ≡ self.old }
+        ensures reply { result ≡ reply_to what self.old.cell.value }
+        ensures is { self.new ≡ record self.old { cell = record self.old.cell { value = value_after what self.old.cell.value } } }
         ensures sound { IsSoundCell self.new.cell }
     {
-        self.core.set_value(value)
-    }
-
-    /// Takes the value out.
-    pub fn take(&mut self) -> Option<u64>
-        requires { self.old.cell.permit.free ≡ 1 }
-        ensures value { result ≡ self.old.cell.value }
-        ensures is { self.new ≡ record self.old { cell = record self.old.cell { value = None } } }
-        ensures sound { IsSoundCell self.new.cell }
-    {
-        self.core.take_value()
+        self.core.use_whole(what)
     }
 
     /// The value, with which the cell ends.

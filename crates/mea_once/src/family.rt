@@ -58,9 +58,9 @@ impl Model for OnceFamily {
 
     ghost use Rattle.mea_once.specs.Halls.{parts, hall_of, AreBelow};
 
-    ghost view = { λ a. record { hall = hall_of (parts a.kinds.onces a.kinds.values a.kinds.maps a.kinds.groups); next = a.next } };
+    ghost view = { λ a. record { hall = hall_of (parts a.kinds.onces a.kinds.cells a.kinds.maps a.kinds.groups); next = a.next } };
 
-    ghost invariant = { λ a. AreBelow (parts a.kinds.onces a.kinds.values a.kinds.maps a.kinds.groups) a.next };
+    ghost invariant = { λ a. AreBelow (parts a.kinds.onces a.kinds.cells a.kinds.maps a.kinds.groups) a.next };
 }
 
 impl OnceFamily {
@@ -74,10 +74,10 @@ impl OnceFamily {
 
     /// The core of the cell of this name, where there is one. It takes no memory.
     pub fn cell(&self, name: u64) -> Option<&CellCore<u64, NamedWaker>>
-        ensures there { is_some result ≡ is_cell self.now.hall.values name }
-        ensures stands { IfSome result (λ core. StandsFor self.now.hall.values name (cell_seen core.now)) }
+        ensures there { is_some result ≡ is_cell self.now.hall.cells name }
+        ensures stands { IfSome result (λ core. StandsFor self.now.hall.cells name (cell_seen core.now)) }
     {
-        self.kinds.values.core(name)
+        self.kinds.cells.core(name)
     }
 
     /// The core of the map of this name, where there is one. It takes no memory.

@@ -9,7 +9,7 @@ ghost use Rattle.mea_once.specs.Acts.{KeyActs, KeyActsQuietly};
 ghost use Rattle.mea_once.specs.Lends.{StandsForTable};
 
 use crate::actions::{TableAction, ValueAction};
-use crate::jobs::content;
+use crate::errands::content;
 use crate::key_future::KeyFuture;
 use crate::scripted::Scripted;
 use crate::table_core::{TableCore, ValueCore};

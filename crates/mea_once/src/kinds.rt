@@ -6,11 +6,11 @@ ghost use Rattle.mea_once.specs.Actions.{meant, FitsMeaning};
 ghost use Rattle.mea_once.specs.Halls.{parts, hall_of, AreBelow};
 ghost use Rattle.mea_once.specs.Acts.{ActsBy};
 
+use crate::cell_part::CellPart;
 use crate::groups::NamedGroup;
 use crate::key_part::KeyPart;
 use crate::maps::NamedMap;
 use crate::meaning::Meaning;
-use crate::part::CellPart;
 use mea_base::Ready;
 use mea_by_name::NamedWaker;
 use mea_family::{Answer, Stop};
@@ -21,7 +21,7 @@ use std::alloc::Global;
 #[derive(Drop)]
 pub struct Kinds {
     pub onces: CellPart<OnceCore<NamedWaker>>,
-    pub values: CellPart<CellCore<u64, NamedWaker>>,
+    pub cells: CellPart<CellCore<u64, NamedWaker>>,
     pub maps: KeyPart<NamedMap>,
     pub groups: KeyPart<NamedGroup>,
 }
@@ -29,12 +29,12 @@ pub struct Kinds {
 impl Kinds {
     /// Nothing of any kind. It takes no memory.
     pub fn new(alloc: Global) -> Self
-        ensures hall { hall_of (parts result.onces result.values result.maps result.groups) ≡ empty_hall }
-        ensures below { AreBelow (parts result.onces result.values result.maps result.groups) 0 }
+        ensures hall { hall_of (parts result.onces result.cells result.maps result.groups) ≡ empty_hall }
+        ensures below { AreBelow (parts result.onces result.cells result.maps result.groups) 0 }
     {
         Kinds {
             onces: CellPart::new(alloc),
-            values: CellPart::new(alloc),
+            cells: CellPart::new(alloc),
             maps: KeyPart::new(alloc),
             groups: KeyPart::new(alloc),
         }
@@ -42,24 +42,24 @@ impl Kinds {
 
     /// What holds of the things of all kinds, where n is above the number of each event. It does nothing.
     pub fn are_valid(&self)
-        ensures { (n : ℕ) → AreBelow (parts self.now.onces self.now.values self.now.maps self.now.groups) n → IsValid (hall_of (parts self.now.onces self.now.values self.now.maps self.now.groups)) n }
+        ensures { (n : ℕ) → AreBelow (parts self.now.onces self.now.cells self.now.maps self.now.groups) n → IsValid (hall_of (parts self.now.onces self.now.cells self.now.maps self.now.groups)) n }
     {
         self.onces.is_valid();
-        self.values.is_valid();
+        self.cells.is_valid();
         self.maps.is_valid();
         self.groups.is_valid();
     }
 
     /// Why an event that means this would be refused; None where it would not.
     pub fn cause(&self, meaning: Meaning) -> Option<Stop>
-        ensures { result ≡ cause_by (hall_of (parts self.now.onces self.now.values self.now.maps self.now.groups)) (meant meaning) }
+        ensures { result ≡ cause_by (hall_of (parts self.now.onces self.now.cells self.now.maps self.now.groups)) (meant meaning) }
     {
         match meaning {
             Meaning::Onces(action) => self.onces.cause(action),
-            Meaning::Cells(action) => self.values.cause(action),
-            Meaning::Wholes(action) => self.values.cause_whole(action),
+            Meaning::Cells(action) => self.cells.cause(action),
+            Meaning::CellsAlone(action) => self.cells.cause_whole(action),
             Meaning::Maps(action) => self.maps.cause(action),
-            Meaning::Values(action) => self.maps.cause_value(action),
+            Meaning::MapsAlone(action) => self.maps.cause_value(action),
             Meaning::Groups(action) => self.groups.cause(action),
         }
     }
@@ -72,17 +72,17 @@ impl Kinds {
         ready: &mut Ready<u64>,
     ) -> Result<Answer, Stop>
         requires fits { FitsMeaning meaning }
-        requires below { AreBelow (parts self.old.onces self.old.values self.old.maps self.old.groups) number }
-        requires room { registered (hall_of (parts self.old.onces self.old.values self.old.maps self.old.groups)) ≤ ready.old.registered }
-        ensures { ActsBy (meant meaning) (parts self.old.onces self.old.values self.old.maps self.old.groups) number result
-            (parts self.new.onces self.new.values self.new.maps self.new.groups) ready.old ready.new }
+        requires below { AreBelow (parts self.old.onces self.old.cells self.old.maps self.old.groups) number }
+        requires room { registered (hall_of (parts self.old.onces self.old.cells self.old.maps self.old.groups)) ≤ ready.old.registered }
+        ensures { ActsBy (meant meaning) (parts self.old.onces self.old.cells self.old.maps self.old.groups) number result
+            (parts self.new.onces self.new.cells self.new.maps self.new.groups) ready.old ready.new }
     {
         match meaning {
             Meaning::Onces(action) => self.onces.act(number, action, ready),
-            Meaning::Cells(action) => self.values.act(number, action, ready),
-            Meaning::Wholes(action) => self.values.act_whole(number, action, ready),
+            Meaning::Cells(action) => self.cells.act(number, action, ready),
+            Meaning::CellsAlone(action) => self.cells.act_whole(number, action, ready),
             Meaning::Maps(action) => self.maps.act(number, action, ready),
-            Meaning::Values(action) => self.maps.act_value(number, action),
+            Meaning::MapsAlone(action) => self.maps.act_value(number, action),
             Meaning::Groups(action) => self.groups.act(number, action, ready),
         }
     }

@@ -4,17 +4,18 @@
 
 mod actions;
 mod cell_entry;
+mod cell_part;
+mod cells;
+mod errands;
 mod family;
 mod future_entry;
 mod groups;
-mod jobs;
 mod key_future;
 mod key_part;
 mod kinds;
 mod maps;
 mod meaning;
 mod onces;
-mod part;
 mod poll_reply;
 mod polled_core;
 mod round;
@@ -22,7 +23,6 @@ mod scripted;
 mod table_core;
 mod table_entry;
 mod turn_core;
-mod values;
 
 pub use family::{OnceFamily, OnceHall, OnceModel};
 pub use groups::NamedGroup;

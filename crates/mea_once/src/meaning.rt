@@ -4,7 +4,7 @@ ghost use Rattle.mea_once.specs.Actions.{meant, FitsMeaning};
 
 use crate::actions::{TableAction, TurnAction, ValueAction, WholeAction};
 use mea_events::OnceEvent;
-use mea_once_model::{Initialiser, Job};
+use mea_once_model::{Errand, Initialiser, WholeUse};
 
 /// What a line does, and to which kind of things.
 #[derive(Clone, Copy)]
@@ -14,11 +14,11 @@ pub enum Meaning {
     /// Something to cells that is done to calls that run once too.
     Cells(TurnAction),
     /// Something to cells alone.
-    Wholes(WholeAction),
+    CellsAlone(WholeAction),
     /// Something to maps that is done to groups too.
     Maps(TableAction),
     /// Something to maps alone.
-    Values(ValueAction),
+    MapsAlone(ValueAction),
     /// Something to groups.
     Groups(TableAction),
 }
@@ -33,43 +33,43 @@ pub fn meaning_of(event: &OnceEvent) -> Meaning
         OnceEvent::OnDone(o) => Meaning::Onces(TurnAction::TellFull(o)),
         OnceEvent::OnCall(o) => Meaning::Onces(TurnAction::Begin(
             o,
-            Job::Calls(Initialiser::Unsettled),
+            Errand::Calls(Initialiser::Unsettled),
         )),
-        OnceEvent::OnWait(o) => Meaning::Onces(TurnAction::Begin(o, Job::Awaits)),
+        OnceEvent::OnWait(o) => Meaning::Onces(TurnAction::Begin(o, Errand::Awaits)),
         OnceEvent::OnPoll(f, waker) => Meaning::Onces(TurnAction::Poll(f, waker)),
         OnceEvent::OnSettle(f) => Meaning::Onces(TurnAction::Settle(f, Initialiser::Gives(0))),
         OnceEvent::OnEnd(f) => Meaning::Onces(TurnAction::End(f)),
         OnceEvent::OnDrop(o) => Meaning::Onces(TurnAction::Drop(o)),
         OnceEvent::OcNew => Meaning::Cells(TurnAction::Make),
-        OnceEvent::OcFrom(v) => Meaning::Wholes(WholeAction::MakeFull(v)),
+        OnceEvent::OcFrom(v) => Meaning::CellsAlone(WholeAction::MakeFull(v)),
         OnceEvent::OcGet(c) => Meaning::Cells(TurnAction::Tell(c)),
         OnceEvent::OcInit(c) => Meaning::Cells(TurnAction::Begin(
             c,
-            Job::Computes(Initialiser::Unsettled),
+            Errand::Computes(Initialiser::Unsettled),
         )),
-        OnceEvent::OcSet(c, v) => Meaning::Cells(TurnAction::Begin(c, Job::Sets(v))),
-        OnceEvent::OcIns(c, v) => Meaning::Cells(TurnAction::Begin(c, Job::Inserts(v))),
+        OnceEvent::OcSet(c, v) => Meaning::Cells(TurnAction::Begin(c, Errand::Sets(v))),
+        OnceEvent::OcIns(c, v) => Meaning::Cells(TurnAction::Begin(c, Errand::Inserts(v))),
         OnceEvent::OcMinit(c) => Meaning::Cells(TurnAction::Begin(
             c,
-            Job::Alone(Initialiser::Unsettled),
+            Errand::Alone(Initialiser::Unsettled),
         )),
         OnceEvent::OcPoll(f, waker) => Meaning::Cells(TurnAction::Poll(f, waker)),
         OnceEvent::OcSettle(f, v) => Meaning::Cells(TurnAction::Settle(f, Initialiser::Gives(v))),
         OnceEvent::OcFail(f, e) => Meaning::Cells(TurnAction::Settle(f, Initialiser::Fails(e))),
         OnceEvent::OcEnd(f) => Meaning::Cells(TurnAction::End(f)),
-        OnceEvent::OcPeek(c) => Meaning::Wholes(WholeAction::Peek(c)),
-        OnceEvent::OcPut(c, v) => Meaning::Wholes(WholeAction::Put(c, v)),
-        OnceEvent::OcTake(c) => Meaning::Wholes(WholeAction::Take(c)),
-        OnceEvent::OcInto(c) => Meaning::Wholes(WholeAction::TakeOut(c)),
+        OnceEvent::OcPeek(c) => Meaning::CellsAlone(WholeAction::Use(c, WholeUse::Tells)),
+        OnceEvent::OcPut(c, v) => Meaning::CellsAlone(WholeAction::Use(c, WholeUse::Writes(v))),
+        OnceEvent::OcTake(c) => Meaning::CellsAlone(WholeAction::Use(c, WholeUse::Takes)),
+        OnceEvent::OcInto(c) => Meaning::CellsAlone(WholeAction::TakeOut(c)),
         OnceEvent::OcDrop(c) => Meaning::Cells(TurnAction::Drop(c)),
         OnceEvent::OmNew => Meaning::Maps(TableAction::Make),
-        OnceEvent::OmGet(m, key) => Meaning::Values(ValueAction::Tell(m, key)),
+        OnceEvent::OmGet(m, key) => Meaning::MapsAlone(ValueAction::Tell(m, key)),
         OnceEvent::OmCompute(m, key) => Meaning::Maps(TableAction::Begin(m, key)),
         OnceEvent::OmPoll(f, waker) => Meaning::Maps(TableAction::Poll(f, waker)),
         OnceEvent::OmSettle(f, v) => Meaning::Maps(TableAction::Settle(f, Initialiser::Gives(v))),
         OnceEvent::OmFail(f, e) => Meaning::Maps(TableAction::Settle(f, Initialiser::Fails(e))),
         OnceEvent::OmDiscard(m, key) => Meaning::Maps(TableAction::Discard(m, key)),
-        OnceEvent::OmRemove(m, key) => Meaning::Values(ValueAction::Remove(m, key)),
+        OnceEvent::OmRemove(m, key) => Meaning::MapsAlone(ValueAction::Remove(m, key)),
         OnceEvent::OmEnd(f) => Meaning::Maps(TableAction::End(f)),
         OnceEvent::OmDrop(m) => Meaning::Maps(TableAction::Drop(m)),
         OnceEvent::SfNew => Meaning::Groups(TableAction::Make),

@@ -69,10 +69,6 @@ impl TurnCore for OnceCore<NamedWaker> {
 }
 
 impl WaitCore for OnceCore<NamedWaker> {
-    ghost use Rattle.std.specs.Prelude.{refl};
-
-    ghost runs_once = { refl };
-
     fn poll_wait(&mut self, wait: &mut LatchWait, waker: NamedWaker) -> Result<bool, NoMemory> {
         let _ = OnceCore::is_completed(self);
         match OnceCore::poll_wait(self, wait, waker) {

@@ -6,3 +6,9 @@ pub struct PollReply {
     pub answer: Answer,
     pub over: bool,
 }
+
+/// What a poll tells whose future waits on.
+pub const PENDING: PollReply = PollReply {
+    answer: Answer::Pending,
+    over: false,
+};

@@ -1,9 +1,9 @@
-ghost use Rattle.std.specs.Prelude.{◌≡◌, ◌≤◌, IfOk, OnErr};
-ghost use Rattle.mea_once_model.specs.Cells.{poll};
-ghost use Rattle.mea_once.specs.Entries.{keeps, left_by};
-ghost use Rattle.mea_once.specs.Parts.{cell_seen, future_seen, Stands, Stepped};
+ghost use Rattle.std.specs.Prelude.{◌≤◌};
+ghost use Rattle.mea_once.specs.Entries.{keeps};
+ghost use Rattle.mea_once.specs.Parts.{Stands, PollsCell};
 
 use crate::cell_entry::CellEntry;
+use crate::errands::{is_alone, is_wait};
 use crate::future_entry::FutureEntry;
 use crate::poll_reply::PollReply;
 use crate::turn_core::TurnCore;
@@ -24,10 +24,7 @@ pub trait PolledCore: TurnCore {
     ) -> Result<PollReply, NoMemory>
         requires stands { Stands Self.is_once entry.old f future.old }
         requires room { keeps entry.old ≤ ready.old.registered }
-        ensures steps { IfOk result (λ told. (s : Stands Self.is_once entry.old f future.old) →
-            Stepped Self.is_once entry.old s.fs s.n f future.old.cell (left_by told.over future.new)
-            (poll f waker (future_seen future.old) (cell_seen entry.old)) told.answer entry.new ready.old ready.new) }
-        ensures err { OnErr result ((entry.new ≡ entry.old) × (future.new ≡ future.old) × (ready.new ≡ ready.old)) };
+        ensures { PollsCell Self.is_once entry.old f future.old waker ready.old result entry.new future.new ready.new };
 }
 
 impl PolledCore for OnceCore<NamedWaker> {
@@ -38,7 +35,11 @@ impl PolledCore for OnceCore<NamedWaker> {
         waker: u64,
         ready: &mut Ready<u64>,
     ) -> Result<PollReply, NoMemory> {
-        entry.poll_wait_or_call(f, future, waker, ready)
+        if is_wait(future.errand) {
+            entry.poll_wait(f, future, waker, ready)
+        } else {
+            entry.poll_call(f, future, waker, ready)
+        }
     }
 }
 
@@ -50,6 +51,10 @@ impl PolledCore for CellCore<u64, NamedWaker> {
         waker: u64,
         ready: &mut Ready<u64>,
     ) -> Result<PollReply, NoMemory> {
-        entry.poll_alone_or_call(f, future, waker, ready)
+        if is_alone(future.errand) {
+            entry.poll_alone(f, future, waker, ready)
+        } else {
+            entry.poll_call(f, future, waker, ready)
+        }
     }
 }

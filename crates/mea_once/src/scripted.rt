@@ -2,11 +2,11 @@ ghost use Rattle.std.specs.Prelude.{◌≡◌};
 ghost use Rattle.mea_once_model.specs.Cells.{init_of, is_open};
 ghost use Rattle.mea_once.specs.Cores.{answer_of};
 
-use crate::jobs::outcome;
+use crate::errands::outcome;
 use mea_base::Poll;
 use mea_by_name::NamedWaker;
 use mea_once_core::Init;
-use mea_once_model::{Initialiser, Job};
+use mea_once_model::{Errand, Initialiser};
 
 /// The initialiser of a future in a script: it is pending until a line settles it. The waker of its last poll stays with its
 /// cell, where that line finds it.
@@ -17,11 +17,11 @@ pub struct Scripted {
 
 impl Scripted {
     /// That of a future that does this.
-    pub fn new(job: Job) -> Self
-        ensures { result.outcome ≡ init_of job }
+    pub fn new(errand: Errand) -> Self
+        ensures { result.outcome ≡ init_of errand }
     {
         Scripted {
-            outcome: outcome(job),
+            outcome: outcome(errand),
         }
     }
 

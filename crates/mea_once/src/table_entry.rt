@@ -9,7 +9,7 @@ ghost use Rattle.mea_once.specs.KeyEntries.{Enters, FollowsKey, HandsKeys, IsSam
 ghost use Rattle.mea_once.specs.KeyParts.{StandsTable, SteppedTable, AreTogether, table_seen, table_keeps, key_future_seen};
 
 use crate::key_future::KeyFuture;
-use crate::poll_reply::PollReply;
+use crate::poll_reply::{PENDING, PollReply};
 use crate::round::Round;
 use crate::table_core::{TableCore, ValueCore};
 use mea_base::{NoMemory, Poll, Ready};
@@ -19,12 +19,6 @@ use mea_once_core::{CellStage, KeyStage};
 use mea_once_model::Initialiser;
 use std::alloc::Global;
 use std::marker::Model;
-
-// A poll that goes on waiting.
-const PENDING: PollReply = PollReply {
-    answer: Answer::Pending,
-    over: false,
-};
 
 /// What a hall keeps of a map or a group.
 ///

@@ -2,14 +2,17 @@ ghost use Rattle.std.specs.Prelude.{◌≡◌, ◌≤◌, ◌∷◌, [], Bool, l
 ghost use Rattle.mea_sem_core.specs.Core.{held_of};
 ghost use Rattle.mea_sets.specs.WaitSet.{has_given};
 ghost use Rattle.mea_once_core.specs.Permit.{MayPoll, MayEnd};
+ghost use Rattle.mea_once_model.specs.Cells.{value_after, reply_to};
 ghost use Rattle.mea_once.specs.Parts.{IsNewCell};
 ghost use Rattle.mea_once.specs.Cores.{NamedCell, IsSoundCell, TurnsCell, FillsCell, GivesUpCell, LeavesCell, WaitsCell, RunsAlone, reply_by};
 
 use crate::scripted::Scripted;
 use mea_base::{NoMemory, Poll};
 use mea_by_name::NamedWaker;
+use mea_family::Answer;
 use mea_meet_core::LatchWait;
 use mea_once_core::{CellStage, CellTurn};
+use mea_once_model::WholeUse;
 use std::alloc::Global;
 
 /// The core of a cell as a hall uses it. A call that runs once is a cell whose value tells nothing. Only the polls take
@@ -87,9 +90,6 @@ pub trait WaitCore: TurnCore {
         ensures polls { IfOk result (λ over. WaitsCell (Self.seen_as self.old) wait.old waker over (Self.seen_as self.new) wait.new) }
         ensures sound { IsSoundCell (Self.seen_as self.new) }
         ensures err { OnErr result ((self.new ≡ self.old) × (wait.new ≡ wait.old)) };
-
-    // It is a call that runs once.
-    ghost runs_once: { Self.is_once ≡ true };
 }
 
 /// The core of a cell, for who uses it alone.
@@ -107,32 +107,15 @@ pub trait WholeCore: TurnCore {
         ensures nobody { length (Self.seen_as self.old).waits.wakers ≡ 0 }
         ensures sound { IsSoundCell (Self.seen_as self.new) };
 
-    /// The value, if there is one, for who may write it.
-    fn whole_value(&mut self) -> Option<u64>
+    /// Uses the value, and replies.
+    fn use_whole(&mut self, what: WholeUse) -> Answer
         requires { (Self.seen_as self.old).permit.free ≡ 1 }
-        ensures value { result ≡ (Self.seen_as self.old).value }
-        ensures same { Self.seen_as self.new ≡ Self.seen_as self.old };
-
-    /// Writes the value where there is one, and tells whether there is.
-    fn set_value(&mut self, value: u64) -> bool
-        requires { (Self.seen_as self.old).permit.free ≡ 1 }
-        ensures told { result ≡ is_some (Self.seen_as self.old).value }
-        ensures full { result ≡ true → Self.seen_as self.new ≡ record (Self.seen_as self.old) { value = Some value } }
-        ensures empty { is_some (Self.seen_as self.old).value ≡ false → Self.seen_as self.new ≡ Self.seen_as self.old }
-        ensures sound { IsSoundCell (Self.seen_as self.new) };
-
-    /// Takes the value out.
-    fn take_value(&mut self) -> Option<u64>
-        requires { (Self.seen_as self.old).permit.free ≡ 1 }
-        ensures value { result ≡ (Self.seen_as self.old).value }
-        ensures is { Self.seen_as self.new ≡ record (Self.seen_as self.old) { value = None } }
+        ensures reply { result ≡ reply_to what (Self.seen_as self.old).value }
+        ensures is { Self.seen_as self.new ≡ record (Self.seen_as self.old) { value = value_after what (Self.seen_as self.old).value } }
         ensures sound { IsSoundCell (Self.seen_as self.new) };
 
     /// The value, with which the cell ends.
     fn into_value(self) -> Option<u64>
         requires { (Self.seen_as self).permit.free ≡ 1 }
         ensures { result ≡ (Self.seen_as self).value };
-
-    // It is a cell.
-    ghost fills: { Self.is_once ≡ false };
 }

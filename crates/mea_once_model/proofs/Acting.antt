@@ -15,12 +15,12 @@ use Rattle.mea_by_name.proofs.NamedQueues.{Local, local_same}
 use Rattle.mea_by_name.proofs.OneObject.{Goes, FuturesGo, Same, Put, Made, Gone, Kept, Begun, Ended, None_is, Polled, Ends}
 use Rattle.mea_by_name.proofs.Own.{seen-none, seen-back, seen-insert, seen-remove, seen-alike, own-nothing}
 use Rattle.mea_once_model.specs.Cells as cells
-use Rattle.mea_once_model.specs.declared.job.Initialiser.{Initialiser}
-use Rattle.mea_once_model.specs.declared.job.Initialiser.TheVariants.{Unsettled, Gives, Fails}
-use Rattle.mea_once_model.specs.declared.job.Job.{Job}
-use Rattle.mea_once_model.specs.declared.job.Job.TheVariants.{Calls, Computes, Alone, Sets, Inserts, Awaits}
+use Rattle.mea_once_model.specs.declared.errand.Initialiser.{Initialiser}
+use Rattle.mea_once_model.specs.declared.errand.Initialiser.TheVariants.{Unsettled, Gives, Fails}
+use Rattle.mea_once_model.specs.declared.errand.Errand.{Errand}
+use Rattle.mea_once_model.specs.declared.errand.Errand.TheVariants.{Calls, Computes, Alone, Sets, Inserts, Awaits}
 use Rattle.mea_once_model.specs.Cells.{Cell, CellFuture, Cells, Step, waiting_at, new_cell, passed, woken_next, given_up, filled, init_of, is_cell, futures_of}
-use Rattle.mea_once_model.specs.Actions.{Action, Make, Begin, Poll, Settle, End, TellFull, Tell, Peek, Put as Write, Take, TakeOut, Drop, act_in, registers_in, polled_in, ends_in, cause_in, in_the_way}
+use Rattle.mea_once_model.specs.Actions.{Action, Make, Begin, Poll, Settle, End, TellFull, Tell, Use, TakeOut, Drop, act_in, registers_in, polled_in, ends_in, cause_in, in_the_way}
 use Rattle.mea_once_model.proofs.Parts.{part_same, part_pushed, part_with, part_without, part_registering, part_settled, part_next, part_drained, behind, together}
 
 -- ---- what the laws on wakers look at of a future is its cell
@@ -78,7 +78,7 @@ module _ (f w : ℕ) (x : CellFuture) (c : Cell) where
   runs t (Fails e) = record { more = 0; local = passes t; few = omega arith; mine = tt }
 
   takes_turn : (v : Option ℕ) → Fine x c f 1 (cells.take_turn f w x c v)
-  takes_turn None = runs c.taken (init_of x.job)
+  takes_turn None = runs c.taken (init_of x.errand)
   takes_turn (Some v) = record { more = 0; local = passes c.taken; few = omega arith; mine = tt }
 
   awaits : Fine x c f 1 (cells.awaits f w x c)
@@ -99,7 +99,7 @@ module _ (f w : ℕ) (x : CellFuture) (c : Cell) where
       })
       (λ free. runs true r)
 
-  starts_in : (job : Job) → Fine x c f 1 (cells.start_in f w x c job)
+  starts_in : (errand : Errand) → Fine x c f 1 (cells.start_in f w x c errand)
   starts_in (Calls r) = asks r
   starts_in (Computes r) = asks r
   starts_in (Alone r) = runs c.taken r
@@ -108,7 +108,7 @@ module _ (f w : ℕ) (x : CellFuture) (c : Cell) where
   starts_in Awaits = awaits
 
   starts : (v : Option ℕ) → Fine x c f 1 (cells.start f w x c v)
-  starts None = starts_in x.job
+  starts None = starts_in x.errand
   starts (Some v) = record { more = 0; local = local_same (waiting_at c) f; few = omega arith; mine = tt }
 
   pub polls : Fine x c f 1 (cells.poll f w x c)
@@ -195,18 +195,14 @@ module _ (h : Cells) (i : ℕ) (a : Action) where
     makes : (v : Option ℕ) → GoesTo 0 (cells.make h i v)
     makes v = record { k = i; touches = None_is refl; objects = Made (new_cell v) refl; futures = Kept; over = λ f is. absurd (none f is) }
 
-    begins : (o : ℕ) (job : Job) → (cause_in h a ≡ None → is_cell h o ≡ true) → GoesTo 0 (cells.begin h i o job)
-    begins o job there = record {
+    begins : (o : ℕ) (errand : Errand) → (cause_in h a ≡ None → is_cell h o ≡ true) → GoesTo 0 (cells.begin h i o errand)
+    begins o errand there = record {
       k = i;
       touches = None_is refl;
       objects = Same;
-      futures = rw (seen-insert (λ (x : CellFuture). x.cell) h.futures i (record { cell = o; job = job; polled = false })) (Begun o there);
+      futures = rw (seen-insert (λ (x : CellFuture). x.cell) h.futures i (record { cell = o; errand = errand; polled = false })) (Begun o there);
       over = λ f is. absurd (none f is);
     }
-
-    puts : (o v : ℕ) (c : Cell) → get h.cells o ≡ Some c → (p : Option ℕ) → GoesTo 0 (cells.put_in h o v c p)
-    puts o v c there None = tells 0 (quietly h answers.Lacking) refl refl
-    puts o v c there (Some u) = turns o c (record c { value = Some v }) answers.Done there refl
 
     goes_out : (o : ℕ) (c : Cell) (reply : Answer) → get h.cells o ≡ Some c → (cause_in h a ≡ None → futures_of h o ≡ 0) → GoesTo 0 (cells.gone h o reply)
     goes_out o c reply there alone = record {
@@ -257,7 +253,7 @@ module _ (h : Cells) (i : ℕ) where
 
   pub goes : (a : Action) → GoesTo h i a (cond (registers_in a) 1 0) (act_in h i a)
   goes (Make v) = makes h i (Make v) (λ f is. absurd (cc)) v
-  goes (Begin o job) = begins h i (Begin o job) (λ f is. absurd (cc)) o job (λ allowed. (borrowed_none (is_cell h o) (in_the_way h o job) allowed).0)
+  goes (Begin o errand) = begins h i (Begin o errand) (λ f is. absurd (cc)) o errand (λ allowed. (borrowed_none (is_cell h o) (in_the_way h o errand) allowed).0)
   goes (Poll f w) = by_found (GoesTo h i (Poll f w) 1) (get h.futures f) h _ (still h i (Poll f w) (λ f is. absurd (cc)) 1)
       (λ x future. by_found (GoesTo h i (Poll f w) 1) (get h.cells x.cell) h _ (still h i (Poll f w) (λ f is. absurd (cc)) 1)
       (λ c there. steps h i (Poll f w) (λ f is. absurd (cc)) f w x c _ (ap (λ b. cond b (Some w) None) (eq-eqb f f refl)) future there (polls f w x c)))
@@ -267,8 +263,7 @@ module _ (h : Cells) (i : ℕ) where
   goes (End k) = ends h i k (get h.futures k) refl
   goes (TellFull o) = by_cell (TellFull o) (λ f is. absurd (cc)) o _ (λ c there. tells h i (TellFull o) (λ f is. absurd (cc)) 0 (cells.tell_full h c) refl refl)
   goes (Tell o) = by_cell (Tell o) (λ f is. absurd (cc)) o _ (λ c there. tells h i (Tell o) (λ f is. absurd (cc)) 0 (cells.tell h c) refl refl)
-  goes (Peek o) = by_cell (Peek o) (λ f is. absurd (cc)) o _ (λ c there. tells h i (Peek o) (λ f is. absurd (cc)) 0 (cells.tell h c) refl refl)
-  goes (Write o v) = by_cell (Write o v) (λ f is. absurd (cc)) o _ (λ c there. puts h i (Write o v) (λ f is. absurd (cc)) o v c there c.value)
-  goes (Take o) = by_cell (Take o) (λ f is. absurd (cc)) o _ (λ c there. turns h i (Take o) (λ f is. absurd (cc)) o c (record c { value = None }) (content c.value) there refl)
+  goes (Use o u) = by_cell (Use o u) (λ f is. absurd (cc)) o _
+      (λ c there. turns h i (Use o u) (λ f is. absurd (cc)) o c (record c { value = cells.value_after u c.value }) (cells.reply_to u c.value) there refl)
   goes (TakeOut o) = by_cell (TakeOut o) (λ f is. absurd (cc)) o _ (λ c there. goes_out h i (TakeOut o) (λ f is. absurd (cc)) o c (content c.value) there (λ allowed. not_borrowed (is_cell h o) (futures_of h o) allowed))
   goes (Drop o) = by_cell (Drop o) (λ f is. absurd (cc)) o _ (λ c there. goes_out h i (Drop o) (λ f is. absurd (cc)) o c answers.Done there (λ allowed. not_borrowed (is_cell h o) (futures_of h o) allowed))

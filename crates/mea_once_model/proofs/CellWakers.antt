@@ -16,12 +16,12 @@ use Rattle.mea_by_name.proofs.NamedQueues.{appended-there, with_waker-there, reg
 use Rattle.mea_by_name.proofs.OneObject.{IsBelow, AreBelow, goes_lows, goes_below, goes_made, goes_stays, goes_kept, placed_is, placed_put}
 use Rattle.mea_by_name.proofs.Own.{seen-at, seen-back, seen-none}
 use Rattle.mea_once_model.specs.Cells as cells
-use Rattle.mea_once_model.specs.declared.job.Initialiser.{Initialiser}
-use Rattle.mea_once_model.specs.declared.job.Initialiser.TheVariants.{Unsettled, Gives, Fails}
-use Rattle.mea_once_model.specs.declared.job.Job.{Job}
-use Rattle.mea_once_model.specs.declared.job.Job.TheVariants.{Calls, Computes, Alone, Sets, Inserts, Awaits}
+use Rattle.mea_once_model.specs.declared.errand.Initialiser.{Initialiser}
+use Rattle.mea_once_model.specs.declared.errand.Initialiser.TheVariants.{Unsettled, Gives, Fails}
+use Rattle.mea_once_model.specs.declared.errand.Errand.{Errand}
+use Rattle.mea_once_model.specs.declared.errand.Errand.TheVariants.{Calls, Computes, Alone, Sets, Inserts, Awaits}
 use Rattle.mea_once_model.specs.Cells.{Cell, CellFuture, Cells, Step, waiting_at, init_of, is_alone, is_future}
-use Rattle.mea_once_model.specs.Actions.{Action, Make, Begin, Poll, Settle, End, TellFull, Tell, Peek, Put, Take, TakeOut, Drop, act_in, polled_in, ends_in, cause_in}
+use Rattle.mea_once_model.specs.Actions.{Action, Make, Begin, Poll, Settle, End, TellFull, Tell, Use, TakeOut, Drop, act_in, polled_in, ends_in, cause_in}
 use Rattle.mea_once_model.proofs.Parts.{in_first, in_second, not_waiting}
 use Rattle.mea_once_model.proofs.Acting.{keys, owner, goes}
 
@@ -40,7 +40,7 @@ module _ (f w : ℕ) (x : CellFuture) (c : Cell) where
   abbrev P : Step → Type 0
   P s = s.reply ≡ answers.Pending → Placed f w x s
 
-  found_never : (j : Job) (v : ℕ) → cells.found_full j v ≡ answers.Pending → ⊥
+  found_never : (j : Errand) (v : ℕ) → cells.found_full j v ≡ answers.Pending → ⊥
   found_never (Calls r) v is = absurd (cc)
   found_never (Computes r) v is = absurd (cc)
   found_never (Alone r) v is = absurd (cc)
@@ -48,7 +48,7 @@ module _ (f w : ℕ) (x : CellFuture) (c : Cell) where
   found_never (Inserts u) v is = absurd (cc)
   found_never Awaits v is = absurd (cc)
 
-  filled_never : (j : Job) (v : ℕ) → cells.has_filled j v ≡ answers.Pending → ⊥
+  filled_never : (j : Errand) (v : ℕ) → cells.has_filled j v ≡ answers.Pending → ⊥
   filled_never (Calls r) v is = absurd (cc)
   filled_never (Computes r) v is = absurd (cc)
   filled_never (Alone r) v is = absurd (cc)
@@ -59,12 +59,12 @@ module _ (f w : ℕ) (x : CellFuture) (c : Cell) where
   module _ (out : waits c.queue f ≡ false) (idle : waits c.runner f ≡ false) where
     run_places : (t : Bool) (r : Initialiser) → P (cells.run f w x (record c { taken = t }) r)
     run_places t Unsettled pending = record {
-      future = record x { polled = not (is_alone x.job) };
+      future = record x { polled = not (is_alone x.errand) };
       there = refl;
       mine = refl;
       waker = in_second c.queue _ f (not_waiting c.queue f out) ∙ in_first (c.runner ++ (f, w) ∷ []) c.waits f w (appended-there c.runner f w idle);
     }
-    run_places t (Gives v) pending = absurd (filled_never x.job v pending)
+    run_places t (Gives v) pending = absurd (filled_never x.errand v pending)
     run_places t (Fails e) pending = absurd (cc)
 
     awaits_places : P (cells.awaits f w x c)
@@ -76,15 +76,15 @@ module _ (f w : ℕ) (x : CellFuture) (c : Cell) where
     }
 
     turn_places : (v : Option ℕ) → P (cells.take_turn f w x c v)
-    turn_places None pending = run_places c.taken (init_of x.job) pending
-    turn_places (Some v) pending = absurd (found_never x.job v pending)
+    turn_places None pending = run_places c.taken (init_of x.errand) pending
+    turn_places (Some v) pending = absurd (found_never x.errand v pending)
 
     asks_places : (r : Initialiser) → P (cells.ask f w x c r)
     asks_places r = by_if P c.taken _ _
         (λ taken pending. record { future = record x { polled = true }; there = refl; mine = refl; waker = in_first (c.queue ++ (f, w) ∷ []) _ f w (appended-there c.queue f w out) })
         (λ free. run_places true r)
 
-    start_places : (j : Job) → P (cells.start_in f w x c j)
+    start_places : (j : Errand) → P (cells.start_in f w x c j)
     start_places (Calls r) = asks_places r
     start_places (Computes r) = asks_places r
     start_places (Alone r) = run_places c.taken r
@@ -93,8 +93,8 @@ module _ (f w : ℕ) (x : CellFuture) (c : Cell) where
     start_places Awaits = awaits_places
 
     starts_places : (v : Option ℕ) → P (cells.start f w x c v)
-    starts_places None pending = start_places x.job pending
-    starts_places (Some v) pending = absurd (found_never x.job v pending)
+    starts_places None pending = start_places x.errand pending
+    starts_places (Some v) pending = absurd (found_never x.errand v pending)
 
   pub poll_places : P (cells.poll f w x c)
   poll_places = by_if P (waits c.queue f) _ _
@@ -144,14 +144,12 @@ module _ (h : Cells) (i : ℕ) where
 pub same_poll : (a : Action) (f w : ℕ) (P : Action → Type 0) → ((v : ℕ) → v ≡ w → P (Poll f v)) → polled_in a f ≡ Some w → P a
 same_poll (Poll g v) f w P here is = let test = cond_some (g == f) v w is in subst (λ j. P (Poll j v)) (sym (eqb-true g f test.0)) (here v test.1)
 same_poll (Make v) f w P here is = absurd (cc)
-same_poll (Begin o job) f w P here is = absurd (cc)
+same_poll (Begin o errand) f w P here is = absurd (cc)
 same_poll (Settle k r) f w P here is = absurd (cc)
 same_poll (End k) f w P here is = absurd (cc)
 same_poll (TellFull o) f w P here is = absurd (cc)
 same_poll (Tell o) f w P here is = absurd (cc)
-same_poll (Peek o) f w P here is = absurd (cc)
-same_poll (Put o v) f w P here is = absurd (cc)
-same_poll (Take o) f w P here is = absurd (cc)
+same_poll (Use o u) f w P here is = absurd (cc)
 same_poll (TakeOut o) f w P here is = absurd (cc)
 same_poll (Drop o) f w P here is = absurd (cc)
 

@@ -6,7 +6,7 @@ use Rattle.mea_family.specs.Family.{Outcome}
 use Rattle.mea_base.proofs.Maps.{by_put, get-other, get-removed_other}
 use Rattle.mea_by_name.specs.ByName.{Names}
 use Rattle.mea_by_name.proofs.Cases.{by_found, by_if}
-use Rattle.mea_once_model.specs.declared.job.Initialiser.{Initialiser}
+use Rattle.mea_once_model.specs.declared.errand.Initialiser.{Initialiser}
 use Rattle.mea_once_model.specs.Cells as cells
 use Rattle.mea_once_model.specs.Cells.{Cell, CellFuture, Step, new_cell}
 use Rattle.mea_once_model.specs.Tables as tables

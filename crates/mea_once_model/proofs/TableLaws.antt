@@ -14,7 +14,7 @@ use Rattle.mea_by_name.specs.NamedQueue.{waker_for, queue_of}
 use Rattle.mea_family.specs.Play.{found}
 use Rattle.mea_by_name.proofs.Cases.{by_found, found_is}
 use Rattle.mea_by_name.proofs.OneObject.{IsBelow, below_put, below_gone, below_later, Touches, None_is, Polled, Ends}
-use Rattle.mea_once_model.specs.declared.job.Initialiser.{Initialiser}
+use Rattle.mea_once_model.specs.declared.errand.Initialiser.{Initialiser}
 use Rattle.mea_once_model.specs.Cells as cells
 use Rattle.mea_once_model.specs.Cells.{Cell, CellFuture, Step, waiting_at, new_cell}
 use Rattle.mea_once_model.specs.Tables as tables
@@ -117,7 +117,7 @@ module _ (once : Bool) (h : Tables) (i f w : ℕ) where
     stands None y there waker = absurd (cc)
     stands (Some z) y there waker =
         let u : Table = closed once x.key r s.cell.value (record t { rounds = insert t.rounds r s.cell }) in
-        ap (placed_of (insert h.tables x.table u) f) (get-there h.futures f (record x { init = cells.init_of z.job; round = Some r }))
+        ap (placed_of (insert h.tables x.table u) f) (get-there h.futures f (record x { init = cells.init_of z.errand; round = Some r }))
         ∙ ap (λ p. placed_in (rounds_of p) f (Some r)) (get-there h.tables x.table u)
         ∙ ap (λ rs. placed_in rs f (Some r)) (closed-rounds once x.key r s.cell.value (record t { rounds = insert t.rounds r s.cell }))
         ∙ ap (λ p. waker_for (queue_of waiting_at p) f) (get-there t.rounds r s.cell) ∙ waker

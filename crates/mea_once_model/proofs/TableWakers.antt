@@ -14,7 +14,7 @@ use Rattle.mea_family.specs.Play.{found}
 use Rattle.mea_by_name.proofs.Cases.{by_found, by_if}
 use Rattle.mea_by_name.proofs.OneObject.{IsBelow, Touches, None_is, Polled, Ends}
 use Rattle.mea_by_name.proofs.Own.{own-at, own-nothing}
-use Rattle.mea_once_model.specs.declared.job.Initialiser.{Initialiser}
+use Rattle.mea_once_model.specs.declared.errand.Initialiser.{Initialiser}
 use Rattle.mea_once_model.specs.Cells as cells
 use Rattle.mea_once_model.specs.Cells.{Cell, CellFuture, Step, waiting_at, new_cell}
 use Rattle.mea_once_model.specs.Tables as tables
@@ -178,7 +178,7 @@ module _ (h : Tables) (n i : ℕ) (low : LowTables h n) (later : n ≤ i) where
 
     after_each : (r : ℕ) → r < i + 1 → (p : Option CellFuture) (g : ℕ) (y : KeyFuture) → get (tables.turned_to h.futures f (caller_after r x p)) g ≡ Some y → Fits h i g y
     after_each r small None g y is = fits_old g y (removed_there h.futures f g y is)
-    after_each r small (Some z) g y is = changed (record x { init = cells.init_of z.job; round = Some r }) refl (λ m is. let same : r ≡ m = inside is in omega (arith, same, small)) g y is
+    after_each r small (Some z) g y is = changed (record x { init = cells.init_of z.errand; round = Some r }) refl (λ m is. let same : r ≡ m = inside is in omega (arith, same, small)) g y is
 
     -- it is gone
     forgets : (a : KeyAction) → Touches silent of_table (key_polled a) (key_ends a) i f → ((g : ℕ) → key_ends a g ≡ true → g ≡ f) → KeyGoes h i a (tables.forgets h f)

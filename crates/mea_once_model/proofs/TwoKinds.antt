@@ -2,7 +2,7 @@
 use Rattle.std.proofs.Common.{◌≡◌, Bool, true, false, Option, Some, None, refl, ap, sym, subst, ◌∙◌, if◌then◌else◌}
 use Rattle.mea_once_model.specs.Cells.{Cells}
 use Rattle.mea_once_model.specs.Tables.{Tables}
-use Rattle.mea_once_model.specs.OnceHall.{OnceHall, Kind, Onces, Values, TableKind, Maps, Groups, part, with_part, tables_of, with_tables}
+use Rattle.mea_once_model.specs.OnceHall.{OnceHall, Kind, Onces, OnceCells, TableKind, Maps, Groups, part, with_part, tables_of, with_tables}
 use Rattle.mea_once_model.specs.OnceFamily.{is_kind, is_table_kind}
 
 pub record Kinds (K A : Type 0) : Type 0 where
@@ -16,23 +16,23 @@ pub record Kinds (K A : Type 0) : Type 0 where
 
 pub cells_there : (h : OnceHall) (k : Kind) (p : Cells) → part (with_part h k p) k ≡ p
 cells_there h Onces p = refl
-cells_there h Values p = refl
+cells_there h OnceCells p = refl
 
 pub cells_apart : (h : OnceHall) (j k : Kind) (p : Cells) → is_kind j k ≡ false → part (with_part h j p) k ≡ part h k
 cells_apart h Onces Onces p is = absurd (cc)
-cells_apart h Onces Values p is = refl
-cells_apart h Values Onces p is = refl
-cells_apart h Values Values p is = absurd (cc)
+cells_apart h Onces OnceCells p is = refl
+cells_apart h OnceCells Onces p is = refl
+cells_apart h OnceCells OnceCells p is = absurd (cc)
 
 pub cells_same : (j k : Kind) → is_kind j k ≡ true → j ≡ k
 cells_same Onces Onces is = refl
-cells_same Onces Values is = absurd (cc)
-cells_same Values Onces is = absurd (cc)
-cells_same Values Values is = refl
+cells_same Onces OnceCells is = absurd (cc)
+cells_same OnceCells Onces is = absurd (cc)
+cells_same OnceCells OnceCells is = refl
 
 pub cells_alike : (k : Kind) → is_kind k k ≡ true
 cells_alike Onces = refl
-cells_alike Values = refl
+cells_alike OnceCells = refl
 
 abbrev pub cell_kinds : Kinds Kind Cells
 cell_kinds = record { same_kind = is_kind; part = part; put = with_part; there = cells_there; apart = cells_apart; same = cells_same; alike = cells_alike }
@@ -64,14 +64,14 @@ table_kinds = record { same_kind = is_table_kind; part = tables_of; put = with_t
 pub tables_stay : (h : OnceHall) (j : Kind) (k : TableKind) (p : Cells) → tables_of (with_part h j p) k ≡ tables_of h k
 tables_stay h Onces Maps p = refl
 tables_stay h Onces Groups p = refl
-tables_stay h Values Maps p = refl
-tables_stay h Values Groups p = refl
+tables_stay h OnceCells Maps p = refl
+tables_stay h OnceCells Groups p = refl
 
 pub cells_stay : (h : OnceHall) (j : TableKind) (k : Kind) (p : Tables) → part (with_tables h j p) k ≡ part h k
 cells_stay h Maps Onces p = refl
-cells_stay h Maps Values p = refl
+cells_stay h Maps OnceCells p = refl
 cells_stay h Groups Onces p = refl
-cells_stay h Groups Values p = refl
+cells_stay h Groups OnceCells p = refl
 
 module _ {K A : Type 0} (L : Kinds K A) where
   -- those of the kind are what an event leaves, and the others are as they were

@@ -36,4 +36,4 @@ module _ (n m : ℕ) (later : n ≤ m) where
   }
 
   pub valid_later : (h : OnceHall) → IsValid h n → IsValid h m
-  valid_later h is = record { onces = cells_later h.onces is.onces; values = cells_later h.values is.values; maps = tables_later h.maps is.maps; groups = tables_later h.groups is.groups }
+  valid_later h is = record { onces = cells_later h.onces is.onces; cells = cells_later h.cells is.cells; maps = tables_later h.maps is.maps; groups = tables_later h.groups is.groups }

@@ -17,7 +17,7 @@ use Rattle.mea_once_model.specs.Tables as tables
 use Rattle.mea_once_model.specs.Tables.{Table}
 use Rattle.mea_once_model.specs.Actions.{Action, act_in, registers_in, polled_in, ends_in}
 use Rattle.mea_once_model.specs.KeyActions.{KeyAction, key_act, key_registers, key_polled, key_ends}
-use Rattle.mea_once_model.specs.OnceHall.{OnceHall, Kind, Onces, Values, TableKind, Maps, Groups, empty_hall, part, tables_of, is_once, registered}
+use Rattle.mea_once_model.specs.OnceHall.{OnceHall, Kind, Onces, OnceCells, TableKind, Maps, Groups, empty_hall, part, tables_of, is_once, registered}
 use Rattle.mea_once_model.specs.Meaning.{Doing, KeyDoing, Meaning, OfCells, OfTables, meaning_of, cause_by, step_by, step, registers_by, registers}
 use Rattle.mea_once_model.specs.OnceFamily.{Future, AtCell, ByKey, onces_family, polled_by, ends_by, name, lives, placed}
 use Rattle.mea_once_model.proofs.Acting.{keys, owner, goes}
@@ -162,7 +162,7 @@ nothing_low = record { cells = no_cell; tables = no_table }
   where
     no_cell : (k : Kind) → Low (part onces_family.empty k) 0
     no_cell Onces = cell.nothing_low
-    no_cell Values = cell.nothing_low
+    no_cell OnceCells = cell.nothing_low
 
     no_table : (k : TableKind) → LowTables (tables_of onces_family.empty k) 0
     no_table Maps = table.no_low
@@ -204,7 +204,7 @@ pub record Counts (h : OnceHall) (o : Outcome OnceHall) (extra : ℕ) : Type 0 w
 
 counts_cells : (h : OnceHall) (i : ℕ) (k : Kind) (a : Action) → Counts h (step_by h i (OfCells (record { kind = k; action = a }))) (cond (registers_in a) 1 0)
 counts_cells h i Onces a = let c = goes_counted waiting_at owner h.onces.cells (keys h.onces.futures) _ _ _ i _ _ _ _ (goes h.onces i a) in record { most = omega (arith, c.most); grows = omega (arith, c.grows) }
-counts_cells h i Values a = let c = goes_counted waiting_at owner h.values.cells (keys h.values.futures) _ _ _ i _ _ _ _ (goes h.values i a) in record { most = omega (arith, c.most); grows = omega (arith, c.grows) }
+counts_cells h i OnceCells a = let c = goes_counted waiting_at owner h.cells.cells (keys h.cells.futures) _ _ _ i _ _ _ _ (goes h.cells i a) in record { most = omega (arith, c.most); grows = omega (arith, c.grows) }
 
 counts_tables : (h : OnceHall) (i : ℕ) (k : TableKind) (a : KeyAction) → Counts h (step_by h i (OfTables (record { kind = k; action = a }))) (cond (key_registers a) 1 0)
 counts_tables h i Maps a = let c = table_acting.counted false h.maps i a in record { most = omega (arith, c.most); grows = omega (arith, c.grows) }

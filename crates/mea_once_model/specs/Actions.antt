@@ -7,8 +7,9 @@ use Rattle.mea_family.specs.declared.stop.Stop.TheVariants as stops
 use Rattle.mea_family.specs.Causes.{unknown_unless, borrowed_by}
 use Rattle.mea_family.specs.Family.{Outcome}
 use Rattle.mea_family.specs.Play.{found, content}
-use Rattle.mea_once_model.specs.declared.job.Initialiser.{Initialiser}
-use Rattle.mea_once_model.specs.declared.job.Job.{Job}
+use Rattle.mea_once_model.specs.declared.errand.Initialiser.{Initialiser}
+use Rattle.mea_once_model.specs.declared.errand.Errand.{Errand}
+use Rattle.mea_once_model.specs.declared.whole_use.WholeUse.{WholeUse}
 use Rattle.mea_once_model.specs.Cells as cells
 use Rattle.mea_once_model.specs.Cells.{Cells, is_cell, is_future, is_unsettled, is_alone, futures_of, alone_of}
 
@@ -16,7 +17,7 @@ pub data Action : Type 0 where
   -- a cell, with this value or none
   Make : Option ℕ → Action
   -- a future of the cell that does this
-  Begin : ℕ → Job → Action
+  Begin : ℕ → Errand → Action
   -- a future is polled with a waker, its initialiser is settled, or it ends
   Poll : ℕ → ℕ → Action
   Settle : ℕ → Initialiser → Action
@@ -24,44 +25,38 @@ pub data Action : Type 0 where
   -- it is told whether the cell is full, or what its value is
   TellFull : ℕ → Action
   Tell : ℕ → Action
-  -- the value of a cell that has no future is told, written, or taken out; or the cell goes with it
-  Peek : ℕ → Action
-  Put : ℕ → ℕ → Action
-  Take : ℕ → Action
+  -- the value of a cell that has no future is used; or the cell goes with it
+  Use : ℕ → WholeUse → Action
   TakeOut : ℕ → Action
   Drop : ℕ → Action
 
 -- how many futures are in the way of a new one: one that is to use the cell alone suffers none beside it, and else none
 -- that does may be there
-abbrev pub in_the_way : Cells → ℕ → Job → ℕ
-in_the_way h o job = if is_alone job then futures_of h o else alone_of h o
+abbrev pub in_the_way : Cells → ℕ → Errand → ℕ
+in_the_way h o errand = if is_alone errand then futures_of h o else alone_of h o
 
 abbrev pub cause_in : Cells → Action → Option Stop
 cause_in h (Make v) = None
-cause_in h (Begin o job) = borrowed_by (is_cell h o) (in_the_way h o job)
+cause_in h (Begin o errand) = borrowed_by (is_cell h o) (in_the_way h o errand)
 cause_in h (Poll f w) = unknown_unless (is_future h f)
 cause_in h (Settle f r) = unknown_unless (is_unsettled h f)
 cause_in h (End f) = unknown_unless (is_future h f)
 cause_in h (TellFull o) = borrowed_by (is_cell h o) (alone_of h o)
 cause_in h (Tell o) = borrowed_by (is_cell h o) (alone_of h o)
-cause_in h (Peek o) = borrowed_by (is_cell h o) (futures_of h o)
-cause_in h (Put o v) = borrowed_by (is_cell h o) (futures_of h o)
-cause_in h (Take o) = borrowed_by (is_cell h o) (futures_of h o)
+cause_in h (Use o u) = borrowed_by (is_cell h o) (futures_of h o)
 cause_in h (TakeOut o) = borrowed_by (is_cell h o) (futures_of h o)
 cause_in h (Drop o) = borrowed_by (is_cell h o) (futures_of h o)
 
 -- what is done under number i
 abbrev pub act_in : Cells → ℕ → Action → Outcome Cells
 act_in h i (Make v) = cells.make h i v
-act_in h i (Begin o job) = cells.begin h i o job
+act_in h i (Begin o errand) = cells.begin h i o errand
 act_in h i (Poll f w) = found (get h.futures f) h (λ x. found (get h.cells x.cell) h (λ c. cells.applied h f x.cell (cells.poll f w x c)))
 act_in h i (Settle f r) = found (get h.futures f) h (λ x. found (get h.cells x.cell) h (λ c. cells.applied h f x.cell (cells.settle f r x c)))
 act_in h i (End f) = found (get h.futures f) h (λ x. cells.end_at h f x (get h.cells x.cell))
 act_in h i (TellFull o) = found (get h.cells o) h (cells.tell_full h)
 act_in h i (Tell o) = found (get h.cells o) h (cells.tell h)
-act_in h i (Peek o) = found (get h.cells o) h (cells.tell h)
-act_in h i (Put o v) = found (get h.cells o) h (λ c. cells.put_in h o v c c.value)
-act_in h i (Take o) = found (get h.cells o) h (cells.take_out h o)
+act_in h i (Use o u) = found (get h.cells o) h (cells.use_whole h o u)
 act_in h i (TakeOut o) = found (get h.cells o) h (λ c. cells.gone h o (content c.value))
 act_in h i (Drop o) = found (get h.cells o) h (λ c. cells.gone h o answers.Done)
 

@@ -5,10 +5,12 @@ use Rattle.std.specs.FinMap.{empty, get, insert, remove, len}
 use Rattle.mea_family.specs.declared.answer.Answer.{Answer}
 use Rattle.mea_family.specs.declared.answer.Answer.TheVariants as answers
 use Rattle.mea_family.specs.Family.{Outcome, quietly}
-use Rattle.mea_once_model.specs.declared.job.Initialiser.{Initialiser}
-use Rattle.mea_once_model.specs.declared.job.Initialiser.TheVariants.{Unsettled, Gives, Fails}
-use Rattle.mea_once_model.specs.declared.job.Job.{Job}
-use Rattle.mea_once_model.specs.declared.job.Job.TheVariants.{Calls, Computes, Alone, Sets, Inserts, Awaits}
+use Rattle.mea_once_model.specs.declared.errand.Initialiser.{Initialiser}
+use Rattle.mea_once_model.specs.declared.errand.Initialiser.TheVariants.{Unsettled, Gives, Fails}
+use Rattle.mea_once_model.specs.declared.errand.Errand.{Errand}
+use Rattle.mea_once_model.specs.declared.errand.Errand.TheVariants.{Calls, Computes, Alone, Sets, Inserts, Awaits}
+use Rattle.mea_once_model.specs.declared.whole_use.WholeUse.{WholeUse}
+use Rattle.mea_once_model.specs.declared.whole_use.WholeUse.TheVariants.{Tells, Writes, Takes}
 use Rattle.mea_by_name.specs.ByName.{Names, names_code, own, count}
 use Rattle.mea_by_name.specs.NamedQueue as named_queue
 use Rattle.mea_by_name.specs.NamedQueue.{Waiting, waker_for, waits, with_waker, without, wakers, registering}
@@ -28,7 +30,7 @@ pub record Cell : Type 0 where
 -- that has, and waits no more, has its turn
 pub record CellFuture : Type 0 where
   pub cell : ℕ
-  pub job : Job
+  pub errand : Errand
   pub polled : Bool
 
 pub record Cells : Type 0 where
@@ -51,7 +53,7 @@ is_open (Gives v) = false
 is_open (Fails e) = false
 
 -- whether it has an initialiser that is not settled
-abbrev pub can_settle : Job → Bool
+abbrev pub can_settle : Errand → Bool
 can_settle (Calls i) = is_open i
 can_settle (Computes i) = is_open i
 can_settle (Alone i) = is_open i
@@ -61,12 +63,12 @@ can_settle Awaits = false
 
 abbrev pub settles_in : Option CellFuture → Bool
 settles_in None = false
-settles_in (Some x) = can_settle x.job
+settles_in (Some x) = can_settle x.errand
 
 abbrev pub is_unsettled : Cells → ℕ → Bool
 is_unsettled h f = settles_in (get h.futures f)
 
-abbrev pub is_alone : Job → Bool
+abbrev pub is_alone : Errand → Bool
 is_alone (Alone i) = true
 is_alone _ = false
 
@@ -76,7 +78,7 @@ futures_of h o = len (own (λ (x : CellFuture). x.cell) o h.futures)
 
 -- how many of them use it alone
 abbrev pub alone_of : Cells → ℕ → ℕ
-alone_of h o = count (λ x. is_alone x.job) (own (λ (x : CellFuture). x.cell) o h.futures)
+alone_of h o = count (λ x. is_alone x.errand) (own (λ (x : CellFuture). x.cell) o h.futures)
 
 -- all whose wakers a cell keeps
 abbrev pub waiting_at : Cell → Waiting
@@ -92,7 +94,7 @@ placed h f = named_queue.placed waiting_at (λ (x : CellFuture). x.cell) h.cells
 
 -- ---- what is told
 -- where the cell was full with v
-abbrev pub found_full : Job → ℕ → Answer
+abbrev pub found_full : Errand → ℕ → Answer
 found_full (Calls i) v = answers.Ready
 found_full (Computes i) v = answers.Value v
 found_full (Alone i) v = answers.Value v
@@ -101,7 +103,7 @@ found_full (Inserts u) v = answers.Kept v u
 found_full Awaits v = answers.Ready
 
 -- where this future filled it with v
-abbrev pub has_filled : Job → ℕ → Answer
+abbrev pub has_filled : Errand → ℕ → Answer
 has_filled (Calls i) v = answers.Ready
 has_filled (Computes i) v = answers.Value v
 has_filled (Alone i) v = answers.Value v
@@ -131,7 +133,7 @@ abbrev pub filled : ℕ → ℕ → Cell → Cell
 filled f v c = passed c.queue (record c { value = Some v; runner = without c.runner f; waits = [] })
 
 -- ---- what a future does
-abbrev pub init_of : Job → Initialiser
+abbrev pub init_of : Errand → Initialiser
 init_of (Calls i) = i
 init_of (Computes i) = i
 init_of (Alone i) = i
@@ -139,7 +141,7 @@ init_of (Sets v) = Gives v
 init_of (Inserts v) = Gives v
 init_of Awaits = Unsettled
 
-abbrev pub settled : Initialiser → Job → Job
+abbrev pub settled : Initialiser → Errand → Errand
 settled r (Calls i) = Calls r
 settled r (Computes i) = Computes r
 settled r (Alone i) = Alone r
@@ -153,8 +155,8 @@ with_cell h o c = record h { cells = insert h.cells o c }
 abbrev pub make : Cells → ℕ → Option ℕ → Outcome Cells
 make h i v = quietly (with_cell h i (new_cell v)) answers.Made
 
-abbrev pub begin : Cells → ℕ → ℕ → Job → Outcome Cells
-begin h i o job = quietly (record h { futures = insert h.futures i (record { cell = o; job = job; polled = false }) }) answers.Made
+abbrev pub begin : Cells → ℕ → ℕ → Errand → Outcome Cells
+begin h i o errand = quietly (record h { futures = insert h.futures i (record { cell = o; errand = errand; polled = false }) }) answers.Made
 
 -- what becomes of a cell and of one of its futures, which may be gone, the reply, and the wakers that are made ready
 pub record Step : Type 0 where
@@ -173,14 +175,14 @@ leaves c reply ws = record { cell = c; future = None; reply = reply; wakes = ws 
 
 -- the initialiser of f, whose turn it is: it keeps the waker, or fills the cell, or fails
 abbrev pub run : ℕ → ℕ → CellFuture → Cell → Initialiser → Step
-run f w x c Unsettled = pends (record x { polled = not (is_alone x.job) }) (record c { runner = c.runner ++ (f, w) ∷ [] })
-run f w x c (Gives v) = leaves (filled f v c) (has_filled x.job v) (wakers c.waits ++ woken_next c.queue)
+run f w x c Unsettled = pends (record x { polled = not (is_alone x.errand) }) (record c { runner = c.runner ++ (f, w) ∷ [] })
+run f w x c (Gives v) = leaves (filled f v c) (has_filled x.errand v) (wakers c.waits ++ woken_next c.queue)
 run f w x c (Fails e) = leaves (given_up f c) (answers.Failure e) (woken_next c.queue)
 
 -- whose turn has come looks again: a value that is there by now is enough, and the turn goes to the next
 abbrev pub take_turn : ℕ → ℕ → CellFuture → Cell → Option ℕ → Step
-take_turn f w x c None = run f w x c (init_of x.job)
-take_turn f w x c (Some v) = leaves (given_up f c) (found_full x.job v) (woken_next c.queue)
+take_turn f w x c None = run f w x c (init_of x.errand)
+take_turn f w x c (Some v) = leaves (given_up f c) (found_full x.errand v) (woken_next c.queue)
 
 -- f waits for its turn
 abbrev pub queues : ℕ → ℕ → CellFuture → Cell → Step
@@ -195,7 +197,7 @@ abbrev pub ask : ℕ → ℕ → CellFuture → Cell → Initialiser → Step
 ask f w x c r = if c.taken then queues f w x c else run f w x (record c { taken = true }) r
 
 -- what f does at an empty cell: it waits until that is full, or runs alone, or asks for its turn
-abbrev pub start_in : ℕ → ℕ → CellFuture → Cell → Job → Step
+abbrev pub start_in : ℕ → ℕ → CellFuture → Cell → Errand → Step
 start_in f w x c (Calls r) = ask f w x c r
 start_in f w x c (Computes r) = ask f w x c r
 start_in f w x c (Alone r) = run f w x c r
@@ -205,8 +207,8 @@ start_in f w x c Awaits = awaits f w x c
 
 -- a first poll looks first
 abbrev pub start : ℕ → ℕ → CellFuture → Cell → Option ℕ → Step
-start f w x c None = start_in f w x c x.job
-start f w x c (Some v) = leaves c (found_full x.job v) []
+start f w x c None = start_in f w x c x.errand
+start f w x c (Some v) = leaves c (found_full x.errand v) []
 
 -- who waits for its turn, or has an initialiser that is not settled, or waits until the cell is full, waits on
 abbrev pub poll : ℕ → ℕ → CellFuture → Cell → Step
@@ -219,7 +221,7 @@ poll f w x c =
 
 -- the initialiser of f is settled, and the waker that it was last polled with is woken
 abbrev pub settle : ℕ → Initialiser → CellFuture → Cell → Step
-settle f r x c = record { cell = record c { runner = without c.runner f }; future = Some (record x { job = settled r x.job }); reply = answers.Done; wakes = option_to_list (waker_for c.runner f) }
+settle f r x c = record { cell = record c { runner = without c.runner f }; future = Some (record x { errand = settled r x.errand }); reply = answers.Done; wakes = option_to_list (waker_for c.runner f) }
 
 -- the end of a future: it leaves the queue, or gives up its turn; who waits until the cell is full stays registered
 abbrev pub end : ℕ → CellFuture → Cell → Step
@@ -249,12 +251,22 @@ tell h c = quietly h (content c.value)
 abbrev pub tell_full : Cells → Cell → Outcome Cells
 tell_full h c = quietly h (if is_some c.value then answers.Yes else answers.No)
 
-abbrev pub put_in : Cells → ℕ → ℕ → Cell → Option ℕ → Outcome Cells
-put_in h o v c None = quietly h answers.Lacking
-put_in h o v c (Some u) = quietly (with_cell h o (record c { value = Some v })) answers.Done
+-- the value after a use of the whole cell
+abbrev pub value_after : WholeUse → Option ℕ → Option ℕ
+value_after Tells v = v
+value_after (Writes u) None = None
+value_after (Writes u) (Some v) = Some u
+value_after Takes v = None
 
-abbrev pub take_out : Cells → ℕ → Cell → Outcome Cells
-take_out h o c = quietly (with_cell h o (record c { value = None })) (content c.value)
+-- the reply to it
+abbrev pub reply_to : WholeUse → Option ℕ → Answer
+reply_to Tells v = content v
+reply_to (Writes u) None = answers.Lacking
+reply_to (Writes u) (Some v) = answers.Done
+reply_to Takes v = content v
+
+abbrev pub use_whole : Cells → ℕ → WholeUse → Cell → Outcome Cells
+use_whole h o u c = quietly (with_cell h o (record c { value = value_after u c.value })) (reply_to u c.value)
 
 -- it is gone
 abbrev pub gone : Cells → ℕ → Answer → Outcome Cells
@@ -287,35 +299,35 @@ init_back (Fails e) = refl
 abbrev pub init_code : Coded Initialiser
 init_code = code_by (ℕ × ℕ) (coded× coded_ℕ coded_ℕ) init_number init_of_number init_back
 
-abbrev pub job_number : Job → ℕ × (Initialiser × ℕ)
-job_number (Calls i) = (0, (i, 0))
-job_number (Computes i) = (1, (i, 0))
-job_number (Alone i) = (2, (i, 0))
-job_number (Sets v) = (3, (Unsettled, v))
-job_number (Inserts v) = (4, (Unsettled, v))
-job_number Awaits = (5, (Unsettled, 0))
+abbrev pub errand_number : Errand → ℕ × (Initialiser × ℕ)
+errand_number (Calls i) = (0, (i, 0))
+errand_number (Computes i) = (1, (i, 0))
+errand_number (Alone i) = (2, (i, 0))
+errand_number (Sets v) = (3, (Unsettled, v))
+errand_number (Inserts v) = (4, (Unsettled, v))
+errand_number Awaits = (5, (Unsettled, 0))
 
-abbrev pub job_of_number : ℕ × (Initialiser × ℕ) → Job
-job_of_number (zero, p) = Calls p.0
-job_of_number (suc zero, p) = Computes p.0
-job_of_number (suc (suc zero), p) = Alone p.0
-job_of_number (suc (suc (suc zero)), p) = Sets p.1
-job_of_number (suc (suc (suc (suc zero))), p) = Inserts p.1
-job_of_number (suc (suc (suc (suc (suc n)))), p) = Awaits
+abbrev pub errand_of_number : ℕ × (Initialiser × ℕ) → Errand
+errand_of_number (zero, p) = Calls p.0
+errand_of_number (suc zero, p) = Computes p.0
+errand_of_number (suc (suc zero), p) = Alone p.0
+errand_of_number (suc (suc (suc zero)), p) = Sets p.1
+errand_of_number (suc (suc (suc (suc zero))), p) = Inserts p.1
+errand_of_number (suc (suc (suc (suc (suc n)))), p) = Awaits
 
-pub job_back : (j : Job) → job_of_number (job_number j) ≡ j
-job_back (Calls i) = refl
-job_back (Computes i) = refl
-job_back (Alone i) = refl
-job_back (Sets v) = refl
-job_back (Inserts v) = refl
-job_back Awaits = refl
+pub errand_back : (x : Errand) → errand_of_number (errand_number x) ≡ x
+errand_back (Calls i) = refl
+errand_back (Computes i) = refl
+errand_back (Alone i) = refl
+errand_back (Sets v) = refl
+errand_back (Inserts v) = refl
+errand_back Awaits = refl
 
-abbrev pub job_code : Coded Job
-job_code = code_by (ℕ × (Initialiser × ℕ)) (coded× coded_ℕ (coded× init_code coded_ℕ)) job_number job_of_number job_back
+abbrev pub errand_code : Coded Errand
+errand_code = code_by (ℕ × (Initialiser × ℕ)) (coded× coded_ℕ (coded× init_code coded_ℕ)) errand_number errand_of_number errand_back
 
 abbrev pub future_code : Coded CellFuture
-future_code = code_by (ℕ × (Job × Bool)) (coded× coded_ℕ (coded× job_code coded_bool)) (λ x. (x.cell, (x.job, x.polled))) (λ p. record { cell = p.0; job = p.1.0; polled = p.1.1 }) (λ _. refl)
+future_code = code_by (ℕ × (Errand × Bool)) (coded× coded_ℕ (coded× errand_code coded_bool)) (λ x. (x.cell, (x.errand, x.polled))) (λ p. record { cell = p.0; errand = p.1.0; polled = p.1.1 }) (λ _. refl)
 
 abbrev pub cells_code : Coded Cells
 cells_code = code_by (Names Cell × Names CellFuture) (coded× (names_code cell_code) (names_code future_code)) (λ h. (h.cells, h.futures)) (λ p. record { cells = p.0; futures = p.1 }) (λ _. refl)

@@ -6,7 +6,7 @@ use Rattle.mea_family.specs.declared.stop.Stop.{Stop}
 use Rattle.mea_family.specs.Causes.{unknown_unless, borrowed_by}
 use Rattle.mea_family.specs.Family.{Outcome, quietly}
 use Rattle.mea_family.specs.Play.{found, content}
-use Rattle.mea_once_model.specs.declared.job.Initialiser.{Initialiser}
+use Rattle.mea_once_model.specs.declared.errand.Initialiser.{Initialiser}
 use Rattle.mea_once_model.specs.Tables as tables
 use Rattle.mea_once_model.specs.Tables.{Table, KeyFuture, Tables, is_table, is_future, is_unsettled, futures_of, without_key}
 

@@ -4,13 +4,14 @@ use Rattle.mea_family.specs.declared.stop.Stop.{Stop}
 use Rattle.mea_family.specs.Family.{Outcome}
 use Rattle.mea_events.specs.declared.once_event.OnceEvent.{OnceEvent}
 use Rattle.mea_events.specs.declared.once_event.OnceEvent.TheVariants.{OnNew, OnDone, OnCall, OnWait, OnPoll, OnSettle, OnEnd, OnDrop, OcNew, OcFrom, OcGet, OcInit, OcSet, OcIns, OcMinit, OcPoll, OcSettle, OcFail, OcEnd, OcPeek, OcPut, OcTake, OcInto, OcDrop, OmNew, OmGet, OmCompute, OmPoll, OmSettle, OmFail, OmDiscard, OmRemove, OmEnd, OmDrop, SfNew, SfWork, SfPoll, SfSettle, SfFail, SfForget, SfEnd, SfDrop}
-use Rattle.mea_once_model.specs.declared.job.Initialiser.TheVariants.{Unsettled, Gives, Fails}
-use Rattle.mea_once_model.specs.declared.job.Job.TheVariants.{Calls, Computes, Alone, Sets, Inserts, Awaits}
+use Rattle.mea_once_model.specs.declared.errand.Initialiser.TheVariants.{Unsettled, Gives, Fails}
+use Rattle.mea_once_model.specs.declared.errand.Errand.TheVariants.{Calls, Computes, Alone, Sets, Inserts, Awaits}
+use Rattle.mea_once_model.specs.declared.whole_use.WholeUse.TheVariants.{Tells, Writes, Takes}
 use Rattle.mea_once_model.specs.Cells.{Cells}
-use Rattle.mea_once_model.specs.Actions.{Action, Make, Begin, Poll, Settle, End, TellFull, Tell, Peek, Put, Take, TakeOut, Drop, cause_in, act_in, registers_in}
+use Rattle.mea_once_model.specs.Actions.{Action, Make, Begin, Poll, Settle, End, TellFull, Tell, Use, TakeOut, Drop, cause_in, act_in, registers_in}
 use Rattle.mea_once_model.specs.Tables.{Tables}
 use Rattle.mea_once_model.specs.KeyActions.{KeyAction, MakeTable, BeginKey, PollKey, SettleKey, EndKey, TellKey, DiscardKey, RemoveKey, DropTable, key_cause, key_act, key_registers}
-use Rattle.mea_once_model.specs.OnceHall.{OnceHall, Kind, Onces, Values, TableKind, Maps, Groups, part, with_part, tables_of, with_tables, is_once}
+use Rattle.mea_once_model.specs.OnceHall.{OnceHall, Kind, Onces, OnceCells, TableKind, Maps, Groups, part, with_part, tables_of, with_tables, is_once}
 
 -- what a line does to cells of a kind. What an initialiser of a call that runs once gives tells nothing
 pub record Doing : Type 0 where
@@ -30,8 +31,8 @@ pub data Meaning : Type 0 where
 abbrev pub on_onces : Action → Meaning
 on_onces a = OfCells (record { kind = Onces; action = a })
 
-abbrev pub on_values : Action → Meaning
-on_values a = OfCells (record { kind = Values; action = a })
+abbrev pub on_cells : Action → Meaning
+on_cells a = OfCells (record { kind = OnceCells; action = a })
 
 abbrev pub on_maps : KeyAction → Meaning
 on_maps a = OfTables (record { kind = Maps; action = a })
@@ -49,22 +50,22 @@ meaning_of (OnPoll f w) = on_onces (Poll f w)
 meaning_of (OnSettle f) = on_onces (Settle f (Gives 0))
 meaning_of (OnEnd f) = on_onces (End f)
 meaning_of (OnDrop o) = on_onces (Drop o)
-meaning_of OcNew = on_values (Make None)
-meaning_of (OcFrom v) = on_values (Make (Some v))
-meaning_of (OcGet c) = on_values (Tell c)
-meaning_of (OcInit c) = on_values (Begin c (Computes Unsettled))
-meaning_of (OcSet c v) = on_values (Begin c (Sets v))
-meaning_of (OcIns c v) = on_values (Begin c (Inserts v))
-meaning_of (OcMinit c) = on_values (Begin c (Alone Unsettled))
-meaning_of (OcPoll f w) = on_values (Poll f w)
-meaning_of (OcSettle f v) = on_values (Settle f (Gives v))
-meaning_of (OcFail f e) = on_values (Settle f (Fails e))
-meaning_of (OcEnd f) = on_values (End f)
-meaning_of (OcPeek c) = on_values (Peek c)
-meaning_of (OcPut c v) = on_values (Put c v)
-meaning_of (OcTake c) = on_values (Take c)
-meaning_of (OcInto c) = on_values (TakeOut c)
-meaning_of (OcDrop c) = on_values (Drop c)
+meaning_of OcNew = on_cells (Make None)
+meaning_of (OcFrom v) = on_cells (Make (Some v))
+meaning_of (OcGet c) = on_cells (Tell c)
+meaning_of (OcInit c) = on_cells (Begin c (Computes Unsettled))
+meaning_of (OcSet c v) = on_cells (Begin c (Sets v))
+meaning_of (OcIns c v) = on_cells (Begin c (Inserts v))
+meaning_of (OcMinit c) = on_cells (Begin c (Alone Unsettled))
+meaning_of (OcPoll f w) = on_cells (Poll f w)
+meaning_of (OcSettle f v) = on_cells (Settle f (Gives v))
+meaning_of (OcFail f e) = on_cells (Settle f (Fails e))
+meaning_of (OcEnd f) = on_cells (End f)
+meaning_of (OcPeek c) = on_cells (Use c Tells)
+meaning_of (OcPut c v) = on_cells (Use c (Writes v))
+meaning_of (OcTake c) = on_cells (Use c Takes)
+meaning_of (OcInto c) = on_cells (TakeOut c)
+meaning_of (OcDrop c) = on_cells (Drop c)
 meaning_of OmNew = on_maps MakeTable
 meaning_of (OmGet m k) = on_maps (TellKey m k)
 meaning_of (OmCompute m k) = on_maps (BeginKey m k)

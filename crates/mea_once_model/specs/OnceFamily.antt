@@ -7,7 +7,7 @@ use Rattle.mea_once_model.specs.Cells.{is_future}
 use Rattle.mea_once_model.specs.Actions.{polled_in, ends_in}
 use Rattle.mea_once_model.specs.Tables as tables
 use Rattle.mea_once_model.specs.KeyActions.{key_polled, key_ends}
-use Rattle.mea_once_model.specs.OnceHall.{OnceHall, Kind, Onces, Values, TableKind, Maps, Groups, empty_hall, part, tables_of}
+use Rattle.mea_once_model.specs.OnceHall.{OnceHall, Kind, Onces, OnceCells, TableKind, Maps, Groups, empty_hall, part, tables_of}
 use Rattle.mea_once_model.specs.Meaning.{Meaning, OfCells, OfTables, meaning_of, cause_of, step}
 
 -- a future, by the kind of its cell, map or group, and its name
@@ -17,7 +17,7 @@ pub data Future : Type 0 where
 
 abbrev pub is_kind : Kind → Kind → Bool
 is_kind Onces Onces = true
-is_kind Values Values = true
+is_kind OnceCells OnceCells = true
 is_kind _ _ = false
 
 abbrev pub is_table_kind : TableKind → TableKind → Bool

@@ -9,7 +9,7 @@ use Rattle.mea_once_model.specs.Tables.{Tables, no_tables, tables_code}
 -- calls that run once, and cells with a value
 pub data Kind : Type 0 where
   Onces : Kind
-  Values : Kind
+  OnceCells : Kind
 
 -- maps, whose values stay, and groups, in which a value is for its round alone
 pub data TableKind : Type 0 where
@@ -18,22 +18,22 @@ pub data TableKind : Type 0 where
 
 pub record OnceHall : Type 0 where
   pub onces : Cells
-  pub values : Cells
+  pub cells : Cells
   pub maps : Tables
   pub groups : Tables
 
 abbrev pub empty_hall : OnceHall
-empty_hall = record { onces = no_cells; values = no_cells; maps = no_tables; groups = no_tables }
+empty_hall = record { onces = no_cells; cells = no_cells; maps = no_tables; groups = no_tables }
 
 -- the cells of a kind
 abbrev pub part : OnceHall → Kind → Cells
 part h Onces = h.onces
-part h Values = h.values
+part h OnceCells = h.cells
 
 -- those of a kind are these now
 abbrev pub with_part : OnceHall → Kind → Cells → OnceHall
 with_part h Onces p = record h { onces = p }
-with_part h Values p = record h { values = p }
+with_part h OnceCells p = record h { cells = p }
 
 -- the maps, or the groups
 abbrev pub tables_of : OnceHall → TableKind → Tables
@@ -50,9 +50,9 @@ is_once Groups = true
 
 -- how many wakers are registered
 abbrev pub registered : OnceHall → ℕ
-registered h = cells.registered h.onces + cells.registered h.values + (tables.registered h.maps + tables.registered h.groups)
+registered h = cells.registered h.onces + cells.registered h.cells + (tables.registered h.maps + tables.registered h.groups)
 
 abbrev pub hall_code : Coded OnceHall
 hall_code =
     code_by (Cells × (Cells × (Tables × Tables))) (coded× cells_code (coded× cells_code (coded× tables_code tables_code)))
-    (λ h. (h.onces, (h.values, (h.maps, h.groups)))) (λ p. record { onces = p.0; values = p.1.0; maps = p.1.1.0; groups = p.1.1.1 }) (λ _. refl)
+    (λ h. (h.onces, (h.cells, (h.maps, h.groups)))) (λ p. record { onces = p.0; cells = p.1.0; maps = p.1.1.0; groups = p.1.1.1 }) (λ _. refl)

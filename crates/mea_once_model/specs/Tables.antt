@@ -10,9 +10,9 @@ use Rattle.mea_by_name.specs.ByName.{Names, names_code, own, count}
 use Rattle.mea_by_name.specs.NamedQueue as named_queue
 use Rattle.mea_by_name.specs.NamedQueue.{queue_of, waker_for}
 use Rattle.mea_family.specs.Play.{found}
-use Rattle.mea_once_model.specs.declared.job.Initialiser.{Initialiser}
-use Rattle.mea_once_model.specs.declared.job.Initialiser.TheVariants.{Unsettled}
-use Rattle.mea_once_model.specs.declared.job.Job.TheVariants.{Computes}
+use Rattle.mea_once_model.specs.declared.errand.Initialiser.{Initialiser}
+use Rattle.mea_once_model.specs.declared.errand.Initialiser.TheVariants.{Unsettled}
+use Rattle.mea_once_model.specs.declared.errand.Errand.TheVariants.{Computes}
 use Rattle.mea_once_model.specs.Cells as cells
 use Rattle.mea_once_model.specs.Cells.{Cell, CellFuture, Step, waiting_at, new_cell, is_open, cell_code, init_code}
 
@@ -118,12 +118,12 @@ pub record KeyStep : Type 0 where
 
 -- a future as one of its round's cell
 abbrev pub caller : KeyFuture → CellFuture
-caller x = record { cell = x.table; job = Computes x.init; polled = is_some x.round }
+caller x = record { cell = x.table; errand = Computes x.init; polled = is_some x.round }
 
 -- a caller is as it was but for its initialiser, and has this round, or leaves
 abbrev pub caller_after : ℕ → KeyFuture → Option CellFuture → Option KeyFuture
 caller_after n x None = None
-caller_after n x (Some y) = Some (record x { init = cells.init_of y.job; round = Some n })
+caller_after n x (Some y) = Some (record x { init = cells.init_of y.errand; round = Some n })
 
 abbrev pub left_by : Option CellFuture → ℕ → ℕ → ℕ → Table → Table
 left_by None k n others t = left k n others t

@@ -17,12 +17,12 @@ pub record IsCell (c : Cell) (fs : Names CellFuture) : Type 0 where
   -- who waits for its turn lives, and has asked for it
   pub queued : (f w : ℕ) → waker_for c.queue f ≡ Some w → (x : CellFuture) × (get fs f ≡ Some x) × (x.polled ≡ true)
   -- whose initialiser keeps a waker lives, and has its turn or uses the cell alone
-  pub running : (f w : ℕ) → waker_for c.runner f ≡ Some w → (x : CellFuture) × (get fs f ≡ Some x) × ((has_turn c f x ≡ true) ⊎ (is_alone x.job ≡ true))
+  pub running : (f w : ℕ) → waker_for c.runner f ≡ Some w → (x : CellFuture) × (get fs f ≡ Some x) × ((has_turn c f x ≡ true) ⊎ (is_alone x.errand ≡ true))
   -- one future at the most has its turn, which then is taken
   pub one : (f g : ℕ) (x y : CellFuture) → get fs f ≡ Some x → get fs g ≡ Some y → has_turn c f x ≡ true → has_turn c g y ≡ true → f ≡ g
   pub taken : (f : ℕ) (x : CellFuture) → get fs f ≡ Some x → has_turn c f x ≡ true → c.taken ≡ true
   -- beside one that uses the cell alone there is no other
-  pub alone : (f g : ℕ) (x y : CellFuture) → get fs f ≡ Some x → get fs g ≡ Some y → is_alone x.job ≡ true → f ≡ g
+  pub alone : (f g : ℕ) (x y : CellFuture) → get fs f ≡ Some x → get fs g ≡ Some y → is_alone x.errand ≡ true → f ≡ g
 
 abbrev pub of_cell : CellFuture → ℕ
 of_cell x = x.cell
@@ -61,6 +61,6 @@ pub record HasTables (h : Tables) (n : ℕ) : Type 0 where
 
 pub record IsValid (h : OnceHall) (n : ℕ) : Type 0 where
   pub onces : HasCells h.onces n
-  pub values : HasCells h.values n
+  pub cells : HasCells h.cells n
   pub maps : HasTables h.maps n
   pub groups : HasTables h.groups n

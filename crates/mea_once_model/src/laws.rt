@@ -3,7 +3,7 @@ ghost use Rattle.std.specs.FinMap.{get};
 ghost use Rattle.mea_family.specs.Family.{IsRun, RunOf, KeepsWakers, LosesNoWake};
 ghost use Rattle.mea_by_name.specs.NamedQueue.{waker_for};
 ghost use Rattle.mea_events.specs.declared.once_event.OnceEvent.{OnceEvent};
-ghost use Rattle.mea_once_model.specs.declared.job.Initialiser.{Initialiser};
+ghost use Rattle.mea_once_model.specs.declared.errand.Initialiser.{Initialiser};
 ghost use Rattle.mea_once_model.specs.Cells.{Cell, CellFuture, Cells};
 ghost use Rattle.mea_once_model.specs.Actions.{Settle, act_in};
 ghost use Rattle.mea_once_model.specs.Tables.{Table, KeyFuture, Tables};

@@ -6,8 +6,9 @@ use mea_link::broadcast::overflow;
 use mea_link::latch::Latch;
 use mea_link::shutdown::{ShutdownRecv, ShutdownSend, new_pair};
 use mea_link::waitgroup::WaitGroup;
-use mea_meet_core::{BarrierCore, BarrierWait, GroupWait, LatchWait};
-use mea_meet_seats::{GroupSeats, LatchSeats, Seat, withdraw_from};
+use mea_meet_core::{BarrierCore, BarrierWait};
+use mea_meet_seats::{CountSeats, Seat, withdraw_from};
+use mea_sets::Place;
 use mea_test_support::{Bell, Count, PollOutcome, end, gives, goes_on, poll, rung};
 use mea_wait::{End, Waits};
 use std::process::Abort;
@@ -27,13 +28,13 @@ fn comes_and_goes<R: Wait, F: Waits<Bell, O>, O: Drop>(rt: &R, wait: F, count: &
     }
 }
 
-// A latch of seats, whose calls tell plain values.
+// A count of seats, whose calls tell plain values.
 #[derive(Drop)]
-struct Seats(LatchSeats<u64>);
+struct Seats(CountSeats<u64>);
 
 impl Seats {
     // Whether a wait goes on.
-    fn pends(&mut self, wait: &mut LatchWait, waker: u64) -> bool {
+    fn pends(&mut self, wait: &mut Option<Place>, waker: u64) -> bool {
         self.0.poll(wait, waker) == Ok(Poll::Pending)
     }
 
@@ -41,7 +42,7 @@ impl Seats {
     fn come_and_go(&mut self, waits: u64) -> bool {
         let mut go_on = true;
         for waker in 0..waits {
-            let mut wait = LatchWait::new();
+            let mut wait = None;
             let pends = self.pends(&mut wait, waker);
             self.0.withdraw(wait);
             go_on = go_on && pends;
@@ -54,6 +55,12 @@ impl Seats {
         (self.0.places(), self.0.vacant())
     }
 
+    // Adds one, and tells how many there are.
+    fn add(&mut self) -> Option<u32> {
+        self.0.increment().ok()?;
+        Some(self.0.count())
+    }
+
     fn next_wake(&mut self) -> Option<Seat<u64>> {
         self.0.next_wake()
     }
@@ -62,19 +69,19 @@ impl Seats {
 // A million waits of a latch that are polled and ended take one place in turn.
 #[test]
 fn a_million_waits_take_one_place(rt: HostRuntime) {
-    let mut latch = Seats(LatchSeats::new(rt.alloc(), 1));
+    let mut latch = Seats(CountSeats::new(rt.alloc(), 1));
     assert!(rt; latch.come_and_go(1_000_000));
     assert!(rt; latch.places() == (1, 1));
     a_vacant_place_wakes_nobody(&rt, &mut latch);
 }
 
 fn a_vacant_place_wakes_nobody(rt: &impl Abort, latch: &mut Seats) {
-    let (mut first, mut second) = (LatchWait::new(), LatchWait::new());
+    let (mut first, mut second) = (None, None);
     assert!(rt; latch.pends(&mut first, 7));
     assert!(rt; latch.pends(&mut second, 8));
     assert!(rt; latch.places() == (2, 0));
     latch.0.withdraw(first);
-    latch.0.arrive(1);
+    assert!(rt; latch.0.decrement(1) == 2);
     assert!(rt; latch.0.wakes_ready() == 2);
     assert!(rt; latch.next_wake() == Some(Seat::Vacant));
     assert!(rt; latch.next_wake() == Some(Seat::Taken(8)));
@@ -82,52 +89,20 @@ fn a_vacant_place_wakes_nobody(rt: &impl Abort, latch: &mut Seats) {
     latch.0.withdraw(second);
 }
 
-// A group of seats, whose calls tell plain values.
-#[derive(Drop)]
-struct Group(GroupSeats<u64>);
-
-impl Group {
-    // Whether a wait goes on.
-    fn pends(&mut self, wait: &mut GroupWait, waker: u64) -> bool {
-        self.0.poll(wait, waker) == Ok(Poll::Pending)
-    }
-
-    // The places, and how many of them are vacant.
-    fn places(&self) -> (usize, usize) {
-        (self.0.places(), self.0.vacant())
-    }
-
-    // Adds a handle, and tells how many there are.
-    fn add(&mut self) -> Option<u32> {
-        self.0.add().ok()?;
-        Some(self.0.handles())
-    }
-
-    // Ends two handles, and tells how many wakers that makes ready.
-    fn leave_both(&mut self) -> usize {
-        self.0.leave();
-        self.0.leave();
-        self.0.wakes_ready()
-    }
-
-    fn next_wake(&mut self) -> Option<Seat<u64>> {
-        self.0.next_wake()
-    }
-}
-
 // A wait of a group that ends gives its place to the next; a further poll keeps its own.
 #[test]
 fn a_place_is_given_back(rt: HostRuntime) {
-    let mut group = Group(GroupSeats::new(rt.alloc()));
+    let mut group = Seats(CountSeats::new(rt.alloc(), 1));
     assert!(rt; group.add() == Some(2));
     is_given_back(&rt, &mut group);
-    assert!(rt; group.leave_both() == 2);
+    assert!(rt; group.0.decrement(1) == 0);
+    assert!(rt; group.0.decrement(1) == 2);
     assert!(rt; group.next_wake() == Some(Seat::Taken(4)));
     assert!(rt; group.next_wake() == Some(Seat::Taken(3)));
 }
 
-fn is_given_back(rt: &impl Abort, group: &mut Group) {
-    let (mut first, mut second, mut third) = (GroupWait::new(), GroupWait::new(), GroupWait::new());
+fn is_given_back(rt: &impl Abort, group: &mut Seats) {
+    let (mut first, mut second, mut third) = (None, None, None);
     assert!(rt; group.pends(&mut first, 1));
     assert!(rt; group.pends(&mut second, 2));
     group.0.withdraw(first);

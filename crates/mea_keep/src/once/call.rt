@@ -5,7 +5,7 @@ use crate::claim::ReadyValue;
 use crate::computing::Computing;
 use crate::unfailing::Unfailing;
 use mea_base::Wake;
-use mea_meet_seats::LatchSeats;
+use mea_meet_seats::CountSeats;
 use mea_once_core::{Init, Never, OnceCore};
 use mea_wait::hand_out;
 use std::alloc::Global;
@@ -22,7 +22,7 @@ pub struct Once<W> {
 #[derive(Drop)]
 struct Calls<W> {
     core: OnceCore<Option<W>>,
-    done: LatchSeats<W>,
+    done: CountSeats<W>,
 }
 
 /// The future of `Once::call_once`.
@@ -38,7 +38,7 @@ impl<W: Wake> Once<W> {
         Once {
             calls: Mutex::new(Calls {
                 core: OnceCore::new(alloc),
-                done: LatchSeats::new(alloc, 1),
+                done: CountSeats::new(alloc, 1),
             }),
         }
     }

@@ -1,6 +1,6 @@
 use crate::shutdown::Shared;
 use mea_base::{NoMemory, Poll, Wake};
-use mea_meet_core::{GroupWait, LatchWait};
+use mea_sets::Place;
 use mea_wait::{End, Holds, PollFault, Polled, Unpolled, Waits};
 use std::marker::PhantomData;
 use std::sync;
@@ -10,7 +10,7 @@ use std::sync::Arc;
 /// behind.
 pub struct SignalWait<H, W> {
     of: H,
-    place: LatchWait,
+    place: Option<Place>,
     waker: PhantomData<W>,
 }
 
@@ -24,7 +24,7 @@ pub type OwnedSignal<W> = SignalWait<Arc<Shared<W>>, W>;
 /// nothing behind.
 pub struct Wait<W> {
     shared: Arc<Shared<W>>,
-    place: GroupWait,
+    place: Option<Place>,
 }
 
 impl<W: Wake, H: Holds<Shared<W>>> SignalWait<H, W> {
@@ -32,7 +32,7 @@ impl<W: Wake, H: Holds<Shared<W>>> SignalWait<H, W> {
     pub(super) fn of(of: H) -> Self {
         SignalWait {
             of,
-            place: LatchWait::new(),
+            place: None,
             waker: PhantomData,
         }
     }
@@ -43,7 +43,7 @@ impl<W: Wake> Wait<W> {
     pub(super) fn of(shared: Arc<Shared<W>>) -> Self {
         Wait {
             shared,
-            place: GroupWait::new(),
+            place: None,
         }
     }
 }

@@ -8,7 +8,7 @@ ghost use Rattle.mea_keep.specs.Promise.{Promises};
 
 use crate::promise::Promise;
 use mea_base::{NoMemory, Poll};
-use mea_meet_seats::LatchSeats;
+use mea_meet_seats::CountSeats;
 use mea_once_core::{InitCall, OnceCore};
 
 // Polls a call: ready where a call has completed, be it this one.
@@ -30,7 +30,7 @@ pub(super) fn poll<W: Drop>(
 // many.
 pub(super) fn finish<W: Drop>(
     core: &mut OnceCore<Option<W>>,
-    done: &mut LatchSeats<W>,
+    done: &mut CountSeats<W>,
     call: &mut InitCall<Promise<(), W>>,
 ) -> (Result<Poll<()>, (Option<W>, NoMemory)>, usize, usize)
     ensures allowed { MayPoll core.old.cell.permit call.old.stage → PollsCall Promises core.old call.old None result.0 core.new call.new }
@@ -41,11 +41,11 @@ pub(super) fn finish<W: Drop>(
     ensures woken { result.2 ≡ length done.new.wakes - length done.old.wakes }
 {
     let (answer, made) = poll(core, call, None);
-    let before = done.wakes_ready();
-    if let Ok(Poll::Ready(())) = answer {
-        done.arrive(1);
-    }
-    (answer, made, done.wakes_ready().saturating_sub(before))
+    let woken = match answer {
+        Ok(Poll::Ready(())) => done.decrement(1),
+        _ => 0,
+    };
+    (answer, made, woken)
 }
 
 // Ends a call, which passes its turn on.

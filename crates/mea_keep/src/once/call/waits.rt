@@ -4,8 +4,8 @@ use crate::claim::{Claim, Claimed, Claiming, ReadyValue, Step, told};
 use crate::once::call::{Calls, Once, steps};
 use crate::promise::Promise;
 use mea_base::{NoMemory, Poll, Wake};
-use mea_meet_core::LatchWait;
 use mea_once_core::InitCall;
+use mea_sets::Place;
 use mea_wait::{End, Holds, PollFault, Polled, Unpolled, Waits, hand_out};
 use std::sync::Wait;
 
@@ -32,7 +32,7 @@ pub type OnceClaim<'a, W> = CallClaim<&'a Once<W>, W>;
 /// leaves nothing behind.
 pub struct OnceWait<'a, W> {
     of: &'a Once<W>,
-    place: LatchWait,
+    place: Option<Place>,
 }
 
 impl<W: Wake, H: Holds<Once<W>>> CallClaiming<H, W> {
@@ -48,10 +48,7 @@ impl<W: Wake, H: Holds<Once<W>>> CallClaiming<H, W> {
 impl<'a, W: Wake> OnceWait<'a, W> {
     // A wait that was never polled.
     pub(super) fn of(of: &'a Once<W>) -> Self {
-        OnceWait {
-            of,
-            place: LatchWait::new(),
-        }
+        OnceWait { of, place: None }
     }
 }
 

@@ -1,4 +1,4 @@
-use Rattle.std.proofs.Common.{length, ap, arith}
+use Rattle.std.proofs.Common.{arith, rules}
 use Rattle.mea_sem_core.proofs.Ones.{ones_no_debt, ones_lacks}
 use Rattle.mea_chan_core.proofs.Senders.{wakes_all}
 use Rattle.mea_chan_core.proofs.bounded.BoundedCore.end_receiver.Goals as goal
@@ -17,12 +17,4 @@ move_wakes-requires g c =
 pub invariant_of-self : goal.invariant_of-self
 invariant_of-self g c =
     let stays = wakes_all c.self.inside.waiting c.wake_queue.new.self c.self.invariant.waiting c.wake_queue.ensures.is in
-    record {
-      waiting = rw c.move_wakes.ensures.taken stays.senders;
-      room = omega (arith, stays.room, ap (λ s. length s.queue) c.move_wakes.ensures.taken, c.move_wakes.ensures.spare, c.self.invariant.room);
-      fits = rw c.clear.ensures.items (omega arith);
-      reserved = rw c.clear.ensures.capacity c.self.invariant.reserved;
-      fallen = λ _. c.clear.ensures.items;
-      awake = λ _ _. c.clear.ensures.items;
-      lives = λ _ no. absurd (cc);
-    }
+    search rules

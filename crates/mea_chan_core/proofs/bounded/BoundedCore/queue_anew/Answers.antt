@@ -1,4 +1,4 @@
-use Rattle.std.proofs.Common.{◌≡◌, ℕ, ◌+◌, ◌-◌, ◌<◌, ◌≤◌, length, ap, ◌∙◌, arith, rules}
+use Rattle.std.proofs.Common.{◌≡◌, ℕ, ◌+◌, ◌-◌, ◌<◌, ◌≤◌, length, ap, ◌∙◌, rules}
 use Rattle.mea_sem_core.specs.Calls.{Queues}
 use Rattle.mea_sem_core.specs.declared.acquire.Acquire.TheVariants.{Queued}
 use Rattle.mea_chan_core.specs.Bounded.{without_free}
@@ -20,15 +20,8 @@ invariant_of-self-in-Ok g c =
     let out = rw (← c.self.view_is) at c.requires.out in
     let anew = queues_anew c.self.inside.waiting c.queue_new.new.semaphore c.lose_acquire.new.self c.args.acquire.now queued.0 c.args.waker c.self.invariant.waiting few out queued.1 loses in
     let reserved : length c.self.inside.waiting.queue + 2 ≤ c.reserve.new.self.spare = search rules in
-    record {
-      waiting = anew.0;
-      room = omega (arith, anew.1, reserved, option_few c.self.inside.waker);
-      fits = c.self.invariant.fits;
-      reserved = c.self.invariant.reserved;
-      fallen = c.self.invariant.fallen;
-      awake = c.self.invariant.awake;
-      lives = c.self.invariant.lives;
-    }
+    let one = option_few c.self.inside.waker in
+    search rules
 
 pub returns-in-Ok-clause-queues : goal.returns-in-Ok-clause-queues
 returns-in-Ok-clause-queues g c =

@@ -1,4 +1,4 @@
-use Rattle.std.proofs.Common.{length, ap, sym, ◌∙◌, arith}
+use Rattle.std.proofs.Common.{arith, rules}
 use Rattle.mea_chan_core.proofs.Senders.{makes_way}
 use Rattle.mea_chan_core.proofs.bounded.BoundedCore.try_recv.Goals as goal
 
@@ -10,16 +10,7 @@ move_wakes-requires g c =
     let stays = (makes_way c.self.inside.waiting c.release_if_waiting.new.self c.self.invariant.waiting c.release_if_waiting.ensures.waits c.release_if_waiting.ensures.idle).0 in
     omega (arith, stays.room, c.self.invariant.room)
 
-pub invariant_of-self-2 : goal.invariant_of-self-2
-invariant_of-self-2 g c =
+pub invariant_of-self : goal.invariant_of-self
+invariant_of-self g c =
     let stays = (makes_way c.self.inside.waiting c.release_if_waiting.new.self c.self.invariant.waiting c.release_if_waiting.ensures.waits c.release_if_waiting.ensures.idle).0 in
-    let items = c.in-Some.ensures.items in
-    record {
-      waiting = rw c.move_wakes.ensures.taken stays.senders;
-      room = omega (arith, stays.room, ap (λ s. length s.queue) c.move_wakes.ensures.taken, c.move_wakes.ensures.spare, c.self.invariant.room);
-      fits = omega (arith, ap length items, c.self.invariant.fits);
-      reserved = rw c.pop_front.ensures.capacity c.self.invariant.reserved;
-      fallen = λ ended. absurd (let none = c.self.invariant.fallen ended in let no = sym items ∙ none in cc);
-      awake = λ placed lives. absurd (let none = c.self.invariant.awake placed lives in let no = sym items ∙ none in cc);
-      lives = c.self.invariant.lives;
-    }
+    search rules

@@ -7,8 +7,8 @@ use Rattle.mea_once.proofs.OneCell.{some_futures, some_alone}
 use Rattle.mea_once.proofs.Others.{rewakes, alone_is_free, alone_fits, alone_steps}
 use Rattle.mea_once.proofs.cell_entry.CellEntry.poll_alone.Goals as goal
 
-pub returns-then-runs-clause-steps : goal.returns-then-runs-clause-steps
-returns-then-runs-clause-steps g c = subst (λ (old : KeptCell). runs old.running c.args.f ≡ c.runs.result → (s : Stands g.C.TurnCore.is_once old c.args.f c.args.future.now)
+pub returns-then-runs : goal.returns-then-runs
+returns-then-runs g c = subst (λ (old : KeptCell). runs old.running c.args.f ≡ c.runs.result → (s : Stands g.C.TurnCore.is_once old c.args.f c.args.future.now)
     → Stepped g.C.TurnCore.is_once old s.fs s.n c.args.f c.args.future.now.cell (Some c.args.future.now) (poll c.args.f c.args.waker (future_seen c.args.future.now) (cell_seen old)) Pending (record { cell = g.C.TurnCore.seen_as c.self.inside.core; running = Some (record { future = c.args.f; waker = c.args.waker }); futures = c.self.inside.futures; alone = c.self.inside.alone }) c.args.ready.now c.args.ready.now) c.self.view_is
     (λ run s. rewakes g.C.TurnCore.is_once _ c.args.f c.args.future.now s c.args.waker c.args.ready.now (run ∙ c.if-runs.true)) (sym c.runs.ensures)
 
@@ -26,7 +26,7 @@ pub hand_on-requires-clause-fits : goal.hand_on-requires-clause-fits
 hand_on-requires-clause-fits g c =
     alone_fits g.C.TurnCore.is_once c.args.self.now c.args.f c.args.waker c.args.future.now c.run_alone-told.result c.run_alone-told.new.self (c.keeps-more.result + 1) c.requires.stands c.requires.alone (sym c.runs.ensures ∙ c.if-runs.false) c.run_alone-told.ensures.nobody c.run_alone-told.ensures.ran c.run_alone-told.ensures.sound (omega (arith, c.keeps-more.ensures))
 
-pub returns-clause-steps : goal.returns-clause-steps
-returns-clause-steps g c = λ s.
+pub returns : goal.returns
+returns g c = λ s.
     alone_steps g.C.TurnCore.is_once c.args.self.now c.args.f c.args.waker c.args.future.now c.run_alone-told.result c.run_alone-told.new.self c.hand_on.new.self (c.keeps-more.result + 1) c.args.ready.now c.register.new.self c.hand_on.new.ready s c.requires.alone (sym c.runs.ensures ∙ c.if-runs.false)
     c.run_alone-told.ensures.nobody c.run_alone-told.ensures.ran c.run_alone-told.ensures.sound (omega (arith, c.keeps-more.ensures)) c.in-Ok.ensures.ok c.hand_on.ensures

@@ -8,8 +8,8 @@ use Rattle.mea_once.proofs.Steps.{turn_fits, polled_fits, polled_steps}
 use Rattle.mea_once.proofs.Others.{rewakes}
 use Rattle.mea_once.proofs.cell_entry.CellEntry.poll_call.Goals as goal
 
-pub returns-then-runs-clause-steps : goal.returns-then-runs-clause-steps
-returns-then-runs-clause-steps g c = subst (λ (old : KeptCell). runs old.running c.args.f ≡ c.runs.result → (s : Stands g.C.TurnCore.is_once old c.args.f c.args.future.now)
+pub returns-then-runs : goal.returns-then-runs
+returns-then-runs g c = subst (λ (old : KeptCell). runs old.running c.args.f ≡ c.runs.result → (s : Stands g.C.TurnCore.is_once old c.args.f c.args.future.now)
     → Stepped g.C.TurnCore.is_once old s.fs s.n c.args.f c.args.future.now.cell (Some c.args.future.now) (poll c.args.f c.args.waker (future_seen c.args.future.now) (cell_seen old)) Pending (record { cell = g.C.TurnCore.seen_as c.self.inside.core; running = Some (record { future = c.args.f; waker = c.args.waker }); futures = c.self.inside.futures; alone = c.self.inside.alone }) c.args.ready.now c.args.ready.now) c.self.view_is
     (λ run s. rewakes g.C.TurnCore.is_once _ c.args.f c.args.future.now s c.args.waker c.args.ready.now (run ∙ c.if-runs.true)) (sym c.runs.ensures)
 
@@ -37,8 +37,8 @@ hand_on-requires-clause-fits g c =
     (λ all run s. polled_fits g.C.TurnCore.is_once _ c.follow-told.new.self c.args.f c.args.waker c.args.future.now c.in-Ok-poll_turn.turn _ _ c.follow-told.result (c.keeps-more.result + 1) s c.requires.caller (run ∙ c.if-runs.false) c.in-Ok-poll_turn.ensures.turns c.follow-told.ensures.follows (omega (arith, all)))
     c.keeps-more.ensures (sym c.runs.ensures) c.requires.stands
 
-pub returns-clause-steps : goal.returns-clause-steps
-returns-clause-steps g c =
+pub returns : goal.returns
+returns g c =
     subst (λ (old : KeptCell). c.keeps-more.result ≡ keeps old → runs old.running c.args.f ≡ c.runs.result → (s : Stands g.C.TurnCore.is_once old c.args.f c.args.future.now)
     → Stepped g.C.TurnCore.is_once old s.fs s.n c.args.f c.args.future.now.cell (left_by c.follow-told.result.over c.follow-told.new.future) (poll c.args.f c.args.waker (future_seen c.args.future.now) (cell_seen old)) c.follow-told.result.answer c.hand_on.new.self c.args.ready.now c.hand_on.new.ready) c.self.view_is
     (λ all run s. polled_steps g.C.TurnCore.is_once _ c.follow-told.new.self c.hand_on.new.self c.args.f c.args.waker c.args.future.now c.follow-told.new.future c.in-Ok-poll_turn.turn _ _ c.follow-told.result (c.keeps-more.result + 1) c.args.ready.now c.register.new.self c.hand_on.new.ready s

@@ -22,8 +22,8 @@ hand_on-requires-clause-fits g c =
     (λ all s. wait_fits g.C.TurnCore.is_once _ c.args.f c.args.waker c.args.future.now c.in-Ok-poll_wait.over _ _ c.finish_if.new.self (c.keeps-more.result + 1) s c.requires.wait (λ full. sym c.registered-waits.ensures.count ∙ c.registered-waits.ensures.over full) c.in-Ok-poll_wait.ensures.polls c.in-Ok-poll_wait.ensures.sound c.finish_if.ensures (omega (arith, all)))
     c.keeps-more.ensures c.requires.stands
 
-pub returns-clause-steps : goal.returns-clause-steps
-returns-clause-steps g c =
+pub returns : goal.returns
+returns g c =
     rw c.wait_told.ensures
     (subst (λ (old : KeptCell). c.keeps-more.result ≡ keeps old → (s : Stands g.C.TurnCore.is_once old c.args.f c.args.future.now)
     → Stepped g.C.TurnCore.is_once old s.fs s.n c.args.f c.args.future.now.cell (left_by c.in-Ok-poll_wait.over (record c.args.future.now { wait = c.poll_wait.new.wait })) (poll c.args.f c.args.waker (future_seen c.args.future.now) (cell_seen old)) (cond c.in-Ok-poll_wait.over Ready Pending) c.hand_on.new.self c.args.ready.now c.hand_on.new.ready) c.self.view_is

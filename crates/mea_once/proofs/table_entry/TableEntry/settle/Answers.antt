@@ -1,6 +1,6 @@
 use Rattle.std.proofs.Common.{◌++◌, ◌-◌, ◌∷◌, [], cond, None, Some, ap, sym, subst, ◌∙◌, is_some, arith}
 use Rattle.mea_family.specs.declared.answer.Answer.TheVariants.{Done}
-use Rattle.mea_once_model.specs.declared.job.Initialiser.{Initialiser}
+use Rattle.mea_once_model.specs.declared.errand.Initialiser.{Initialiser}
 use Rattle.mea_once_model.specs.Tables as tables
 use Rattle.mea_once.specs.Entries.{runs}
 use Rattle.mea_once.specs.KeyEntries.{with_running}

@@ -1,0 +1,11 @@
+use Rattle.std.proofs.Common.{ap, sym, ◌∙◌, None, Some}
+use Rattle.std.specs.Option.{option_copied}
+use Rattle.mea_once.proofs.Causes.{if_borrowed}
+use Rattle.mea_once.proofs.PartEvents.{begin_cause}
+use Rattle.mea_once.proofs.cell_part.CellPart.cause_of_begin.Goals as goal
+
+pub returns-in-Some : goal.returns-in-Some
+returns-in-Some g c = c.borrowed_if.ensures ∙ ap if_borrowed c.is_closed_to.ensures ∙ sym (begin_cause g.C.TurnCore.is_once c.self.inside.cells c.self.inside.futures c.self.inside.next c.self.view_is c.self.invariant c.args.o c.args.errand (Some c.in-Some.entry.now) (sym c.get.ensures ∙ ap option_copied c.in-Some.is))
+
+pub returns-in-None : goal.returns-in-None
+returns-in-None g c = sym (begin_cause g.C.TurnCore.is_once c.self.inside.cells c.self.inside.futures c.self.inside.next c.self.view_is c.self.invariant c.args.o c.args.errand None (sym c.get.ensures ∙ ap option_copied c.in-None.is))
