@@ -39,7 +39,7 @@ type Permits<L> = Vec<Option<NamedPermit<L>>>;
 
 // What a call tells; none of a permit that is not there. It has no clauses, nor has what follows, so that no test carries what
 // the semaphore promises.
-fn reply<L: Ledger, R: Wait>(
+fn answer<L: Ledger, R: Wait>(
     rt: &R,
     semaphore: &NamedSemaphore<L>,
     permits: &mut Permits<L>,
@@ -127,7 +127,7 @@ fn differs<L: Ledger, R: Wait>(
     script: &[(Call, Reply)],
 ) -> Option<usize> {
     for (place, (call, told)) in script.iter().enumerate() {
-        if reply(rt, semaphore, permits, *call) != Some(*told) {
+        if answer(rt, semaphore, permits, *call) != Some(*told) {
             return Some(place);
         }
     }
