@@ -160,15 +160,20 @@ fn pushed_with_room(outbox: &mut Outbox<u64>, waker: u64) -> bool {
     }
 }
 
+// What comes out of an outbox into which two wakers were put, if there was room for both.
+fn two_and_none(alloc: Global) -> Option<[Option<u64>; 3]> {
+    let mut outbox: Outbox<u64> = Outbox::new(alloc);
+    if pushed_with_room(&mut outbox, 10) && pushed_with_room(&mut outbox, 20) {
+        Some([outbox.pop(), outbox.pop(), outbox.pop()])
+    } else {
+        None
+    }
+}
+
 // Wakers leave in the order in which they came.
 #[test]
 fn wakers(rt: HostRuntime) {
-    let mut outbox: Outbox<u64> = Outbox::new(rt.alloc());
-    assert!(rt; pushed_with_room(&mut outbox, 10));
-    assert!(rt; pushed_with_room(&mut outbox, 20));
-    assert!(rt; outbox.pop() == Some(10));
-    assert!(rt; outbox.pop() == Some(20));
-    assert!(rt; outbox.pop().is_none());
+    assert!(rt; two_and_none(rt.alloc()) == Some([Some(10), Some(20), None]));
 }
 
 // Whether there was a registered waker, which is woken.

@@ -126,12 +126,13 @@ fn set_whole(lock: &mut Lock, value: u64) {
 }
 
 // What a mutex that is idle gives out.
-fn given_out(mut lock: Lock) -> u64 {
+fn given_out(alloc: Global) -> u64 {
+    let mut lock: Lock = MutexCore::new(alloc, 5);
     set_whole(&mut lock, 6);
     lock.into_inner_checked()
 }
 
 #[test]
 fn mutex_gives_out(rt: HostRuntime) {
-    assert_eq!(rt; given_out(MutexCore::new(rt.alloc(), 5)), 6);
+    assert_eq!(rt; given_out(rt.alloc()), 6);
 }

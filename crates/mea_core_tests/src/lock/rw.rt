@@ -155,12 +155,13 @@ fn set_whole(lock: &mut Lock, value: u64) {
 }
 
 // What a lock that is idle gives out.
-fn given_out(mut lock: Lock) -> u64 {
+fn given_out(alloc: Global) -> u64 {
+    let mut lock: Lock = RwCore::new(alloc, 7, 2);
     set_whole(&mut lock, 8);
     lock.into_inner_checked()
 }
 
 #[test]
 fn rw_gives_out(rt: HostRuntime) {
-    assert_eq!(rt; given_out(RwCore::new(rt.alloc(), 7, 2)), 8);
+    assert_eq!(rt; given_out(rt.alloc()), 8);
 }

@@ -2,6 +2,7 @@ use crate::play::Reply;
 use crate::play::Reply::{Done, No, Nothing, Pending, Value};
 use mea_meet_core::{GroupCore, GroupWait};
 use mea_test_support::{Plays, differs_at};
+use std::alloc::Global;
 
 type Group = GroupCore<u64>;
 
@@ -78,15 +79,17 @@ const GROUP: &[(Call, Reply)] = &[
 
 const FULL: &[(Call, Reply)] = &[(Call::Add, Nothing)];
 
-fn differs(group: Group, script: &[(Call, Reply)]) -> Option<usize> {
-    differs_at(Room::new(group), script)
+fn differs(alloc: Global) -> Option<usize> {
+    differs_at(Room::new(GroupCore::new(alloc)), GROUP)
+}
+
+// The same of a group whose count is full.
+fn full_differs(alloc: Global) -> Option<usize> {
+    differs_at(Room::new(GroupCore::at_count(alloc, u32::MAX)), FULL)
 }
 
 #[test]
 fn group(rt: HostRuntime) {
-    assert_eq!(rt; differs(GroupCore::new(rt.alloc()), GROUP), None);
-    assert_eq!(rt;
-        differs(GroupCore::at_count(rt.alloc(), u32::MAX), FULL),
-        None
-    );
+    assert_eq!(rt; differs(rt.alloc()), None);
+    assert_eq!(rt; full_differs(rt.alloc()), None);
 }

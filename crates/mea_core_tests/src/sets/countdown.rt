@@ -2,6 +2,7 @@ use crate::play::Reply;
 use crate::play::Reply::{Done, No, Pending, Value};
 use mea_sets::Countdown;
 use mea_test_support::{Plays, differs_at};
+use std::alloc::Global;
 
 // A call of a count, each poll of a further wait.
 #[derive(Clone, Copy)]
@@ -70,11 +71,12 @@ const COUNTS: &[(Call, Reply)] = &[
     (Call::Poll(12), Done),
 ];
 
-fn differs(count: Countdown<u64>) -> Option<usize> {
+fn differs(alloc: Global) -> Option<usize> {
+    let count = Countdown::new(alloc, u32::MAX);
     differs_at(Room { count }, COUNTS)
 }
 
 #[test]
 fn counts(rt: HostRuntime) {
-    assert_eq!(rt; differs(Countdown::new(rt.alloc(), u32::MAX)), None);
+    assert_eq!(rt; differs(rt.alloc()), None);
 }
