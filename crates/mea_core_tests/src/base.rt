@@ -2,6 +2,7 @@ use crate::play::Reply;
 use crate::play::Reply::{Done, No, Nothing, Value, Yes};
 use mea_base::{NoMemory, Outbox, Ready, WaitList};
 use mea_test_support::{Plays, differs_at};
+use std::alloc::Global;
 
 type List = WaitList<u64>;
 
@@ -136,39 +137,72 @@ const SCRIPTS: &[&[(Call, Reply)]] = &[
     ],
 ];
 
+fn differs(alloc: Global, script: &[(Call, Reply)]) -> Option<usize> {
+    let list = WaitList::new(alloc);
+    differs_at(Room { list }, script)
+}
+
 #[test]
 fn calls_of_a_list(rt: HostRuntime) {
     for script in SCRIPTS {
-        let list = WaitList::new(rt.alloc());
-        assert_eq!(rt; differs_at(Room { list }, script), None);
+        assert_eq!(rt; differs(rt.alloc(), script), None);
+    }
+}
+
+// Whether a waker finds room, and is put in.
+fn pushed_with_room(outbox: &mut Outbox<u64>, waker: u64) -> bool {
+    match outbox.reserve(1) {
+        Ok(()) => {
+            outbox.push(waker);
+            true
+        }
+        Err(_) => false,
+    }
+}
+
+// What comes out of an outbox into which two wakers were put, if there was room for both.
+fn two_and_none(alloc: Global) -> Option<[Option<u64>; 3]> {
+    let mut outbox: Outbox<u64> = Outbox::new(alloc);
+    if pushed_with_room(&mut outbox, 10) && pushed_with_room(&mut outbox, 20) {
+        Some([outbox.pop(), outbox.pop(), outbox.pop()])
+    } else {
+        None
     }
 }
 
 // Wakers leave in the order in which they came.
 #[test]
 fn wakers(rt: HostRuntime) {
-    let mut outbox: Outbox<u64> = Outbox::new(rt.alloc());
-    assert!(rt; outbox.reserve(2).is_ok());
-    outbox.push(10);
-    outbox.push(20);
-    for waker in [Some(10), Some(20), None] {
-        assert_eq!(rt; outbox.pop(), waker);
+    assert!(rt; two_and_none(rt.alloc()) == Some([Some(10), Some(20), None]));
+}
+
+// Whether there was a registered waker, which is woken.
+fn woken(ready: &mut Ready<u64>, waker: u64) -> bool {
+    let registered = ready.registered();
+    if registered == 0 {
+        return false;
     }
+    ready.wake(waker);
+    true
+}
+
+// Whether there was a registered waker, which is forgotten.
+fn forgotten(ready: &mut Ready<u64>) -> bool {
+    let registered = ready.registered();
+    if registered == 0 {
+        return false;
+    }
+    ready.unregister(1);
+    true
 }
 
 // Of two registered wakers one is woken and one is forgotten.
-fn woken_and_forgotten(ready: &mut Ready<u64>) -> Result<[usize; 3], NoMemory> {
-    ready.register()?;
-    ready.register()?;
-    ready.wake(7);
-    let woken = ready.registered();
-    ready.unregister(1);
-    Ok([woken, ready.registered(), ready.len()])
-}
-
 #[test]
 fn registered_wakers(rt: HostRuntime) {
     let mut ready: Ready<u64> = Ready::new(rt.alloc());
-    assert!(rt; woken_and_forgotten(&mut ready) == Ok([1, 0, 1]));
-    assert!(rt; ready.pop() == Some(7) && ready.pop().is_none());
+    assert!(rt; ready.register().is_ok() && ready.register().is_ok());
+    assert!(rt; woken(&mut ready, 7) && ready.registered() == 1);
+    assert!(rt; forgotten(&mut ready) && ready.registered() == 0);
+    assert!(rt; ready.len() == 1 && ready.pop() == Some(7));
+    assert!(rt; ready.pop().is_none());
 }

@@ -26,6 +26,8 @@ enum Call {
     Try(usize),
     Release(usize),
     ReleaseIfWaiting(usize),
+    // Calls all who wait, if that may be.
+    WakeQueue,
     Forget(usize),
     GiveBack(usize),
     Lose(usize),
@@ -108,7 +110,10 @@ fn acquire_told(core: &mut Core, acquire: &mut Acquire, call: Call) -> Option<Re
 }
 
 fn polled(core: &mut Core, acquire: &mut Acquire, waker: u64) -> Option<Reply> {
-    if core.is_closed() || !core.poll_allowed(acquire) {
+    if core.is_closed() {
+        return None;
+    }
+    if !core.poll_allowed(acquire) {
         return None;
     }
     Reply::turned(core.poll(acquire, waker))
@@ -130,6 +135,7 @@ fn core_told(core: &mut Core, call: Call) -> Reply {
         Call::Release(n) => return Reply::whether(core.release(n).is_ok()),
         Call::Forget(n) => return Reply::whether(core.forget_exact(n).is_ok()),
         Call::ReleaseIfWaiting(n) => return Reply::whether(released_if_waiting(core, n)),
+        Call::WakeQueue => return Reply::whether(queue_woken(core)),
         Call::GiveBack(n) => core.give_back_checked(n),
         Call::Lose(n) => core.lose_checked(n),
         Call::Close => core.close(),
@@ -144,6 +150,14 @@ fn released_if_waiting(core: &mut Core, n: usize) -> bool {
         return false;
     }
     core.release_if_waiting(n);
+    true
+}
+
+fn queue_woken(core: &mut Core) -> bool {
+    if !core.wake_queue_allowed() {
+        return false;
+    }
+    core.wake_queue();
     true
 }
 
@@ -282,83 +296,108 @@ const SCRIPTS: &[(usize, &[(Call, Reply)])] = &[
             (Call::Queued, Value(2)),
         ],
     ),
+    // A call of all who wait adds what the first lacks, unless the permits would pass the greatest number.
+    (
+        2,
+        &[
+            (Call::Ask(5), Done),
+            (Call::Poll(0, 10), Pending),
+            (Call::WakeQueue, Yes),
+            (Call::Live, Value(5)),
+            (Call::Wake, Value(10)),
+        ],
+    ),
+    (
+        usize::MAX - 5,
+        &[
+            (Call::Try(usize::MAX - 5), Yes),
+            (Call::Ask(5), Done),
+            (Call::Poll(0, 10), Pending),
+            (Call::WakeQueue, Yes),
+            (Call::Live, Value(u64::MAX)),
+        ],
+    ),
+    (
+        usize::MAX - 4,
+        &[
+            (Call::Try(usize::MAX - 4), Yes),
+            (Call::Ask(5), Done),
+            (Call::Poll(0, 10), Pending),
+            (Call::WakeQueue, No),
+        ],
+    ),
 ];
+
+// The place of the first call that tells something else, of a core of so many permits.
+fn differs(alloc: Global, permits: usize, script: &[(Call, Reply)]) -> Option<usize> {
+    differs_at(Room::new(alloc, permits), script)
+}
 
 #[test]
 fn calls_of_a_core(rt: HostRuntime) {
     for (permits, script) in SCRIPTS {
-        assert_eq!(rt; differs_at(Room::new(rt.alloc(), *permits), script), None);
+        assert_eq!(rt; differs(rt.alloc(), *permits, script), None);
     }
 }
 
-// How many permits live after a call of all who wait, here of one acquire of five permits, and who is woken.
-fn queue_woken(alloc: Global, permits: usize) -> Option<(usize, Option<u64>)> {
-    let mut core: Core = SemCore::new(alloc, permits);
-    if core.poll(&mut Acquire::new(5), 10).is_err() {
-        return None;
+// Appends a thousand values, and tells the number of the middle one.
+fn filled(list: &mut WaitList<u64>) -> usize {
+    let mut middle = 0;
+    for value in 0..1000u64 {
+        match list.push_tail(value) {
+            Ok(number) if value == 499 => middle = number,
+            _ => {}
+        }
     }
-    if !core.wake_queue_allowed() {
-        return None;
+    middle
+}
+
+// Takes one of a thousand values out, in at most four steps.
+fn unlinks<L: Ledger>(list: &mut WaitList<u64>, number: usize, steps: &mut Steps<L>) -> bool
+    ensures { steps.new ≤ steps.old + 4 }
+{
+    if !list.is_in_use(number) {
+        return false;
     }
-    core.wake_queue();
-    Some((core.live(), core.next_wake()))
+    if !list.is_linked(number) {
+        return false;
+    }
+    list.unlink_counted(number, steps);
+    list.len() == 999
 }
 
-// Whether all who wait may be called, where an acquire of five permits waits and all these are held.
-fn queue_is_wakeable(alloc: Global, permits: usize) -> bool {
-    let mut core: Core = SemCore::new(alloc, permits);
-    core.try_acquire(permits)
-        && core.poll(&mut Acquire::new(5), 10).is_ok()
-        && core.wake_queue_allowed()
-}
-
-// A call of all who wait adds what the first lacks, unless the permits would pass the greatest number.
-#[test]
-fn all_who_wait_are_called(rt: HostRuntime) {
-    assert!(rt; queue_woken(rt.alloc(), 2) == Some((5, Some(10))));
-    assert!(rt; queue_is_wakeable(rt.alloc(), usize::MAX - 5));
-    assert!(rt; !queue_is_wakeable(rt.alloc(), usize::MAX - 4));
-}
-
-// Takes one of a thousand values out of the middle, in at most four steps.
 fn unlinks_the_middle<L: Ledger>(alloc: Global, steps: &mut Steps<L>) -> bool
     ensures { steps.new ≤ steps.old + 4 }
 {
     let mut list: WaitList<u64> = WaitList::new(alloc);
-    let mut middle = 0;
-    for value in 0..1000u64 {
-        let Ok(number) = list.push_tail(value) else {
-            return false;
-        };
-        if value == 499 {
-            middle = number;
-        }
+    let middle = filled(&mut list);
+    unlinks(&mut list, middle, steps)
+}
+
+// Polls a hundred acquires of one permit, which wait.
+fn queue_a_hundred(core: &mut Core) {
+    for waker in 0..100u64 {
+        let _ = core.poll_open_checked(&mut Acquire::new(1), waker);
     }
-    if !list.is_in_use(middle) {
-        return false;
-    }
-    if !list.is_linked(middle) {
-        return false;
-    }
-    list.unlink_counted(middle, steps);
-    list.len() == 999
 }
 
 // Releases as many permits as a hundred acquires ask for, in at most 602 steps.
-fn releases_a_hundred<L: Ledger>(alloc: Global, steps: &mut Steps<L>) -> bool
+fn releases<L: Ledger>(core: &mut Core, steps: &mut Steps<L>) -> bool
     ensures { steps.new ≤ steps.old + 602 }
 {
-    let mut core: SemCore<u64> = SemCore::new(alloc, 0);
-    for waker in 0..100u64 {
-        let mut acquire = Acquire::new(1);
-        if core.poll_open_checked(&mut acquire, waker).is_err() {
-            return false;
-        }
-    }
     if core.queue_len() != 100 {
         return false;
     }
-    core.release_counted(100, steps).is_ok() && core.wakes_ready() == 100
+    let released = core.release_counted(100, steps);
+    released.is_ok() && core.wakes_ready() == 100
+}
+
+fn releases_a_hundred<L: Ledger>(alloc: Global, steps: &mut Steps<L>) -> bool
+    ensures { steps.new ≤ steps.old + 602 }
+{
+    let mut core: Core = SemCore::new(alloc, 0);
+    queue_a_hundred(&mut core);
+    releases(&mut core, steps)
 }
 
 fn touches_few<L: Ledger>(alloc: Global, blank: Blank) -> bool

@@ -1,3 +1,5 @@
+ghost use Rattle.std.specs.Prelude.{◌≤◌};
+
 use crate::words::owned;
 use mea_crew_run::{CrewStatus, Gate, Open, crew, run_crew};
 use mea_events::SemEvent;
@@ -7,7 +9,6 @@ use mea_recorded::{Recorded, Refused};
 use std::process::Abort;
 use std::sync::Wait;
 use std::sync::atomic::{AtomicU64, Ordering};
-use std::test::Fail;
 use std::thread;
 use std::thread::Threads;
 
@@ -46,8 +47,22 @@ impl Gate for Crossing {
     }
 }
 
+// How many entries a crew records. It has no clauses but those of its arguments, so that no test carries what `crew` promises.
+fn entries<R: Threads + Wait + Sync + AllocGlobal + Abort, G: Gate>(
+    rt: &R,
+    workers: u32,
+    rounds: u32,
+    gate: &G,
+) -> u64
+    requires workers { (1 ≤ workers) × (workers ≤ 8) }
+    requires rounds { rounds ≤ 10000 }
+{
+    let recorded = crew(rt, rt.alloc(), workers, rounds, gate);
+    recorded.expect(rt, "a crew").entries()
+}
+
 #[test]
-fn gate_two_workers(rt: HostRuntime) -> Result<(), Fail> {
+fn gate_two_workers(rt: HostRuntime) {
     let gate = Crossing {
         calls: [
             AtomicU64::new(0),
@@ -57,37 +72,41 @@ fn gate_two_workers(rt: HostRuntime) -> Result<(), Fail> {
         ],
         late: AtomicU64::new(0),
     };
-    let recorded = crew(&rt, rt.alloc(), 2, 2, &gate).expect(&rt, "a crew");
-    assert_eq!(rt; recorded.entries(), 9);
+    assert_eq!(rt; entries(&rt, 2, 2, &gate), 9);
     assert_eq!(rt; gate.late.load(Ordering::SeqCst), 0);
-    Ok(())
 }
 
 #[test]
 fn eight_workers(rt: HostRuntime) {
-    let recorded = crew(&rt, rt.alloc(), 8, 1000, &Open).expect(&rt, "a crew");
-    assert!(rt; recorded.entries() > 8000 && recorded.entries() <= 16_001);
+    let entries = entries(&rt, 8, 1000, &Open);
+    assert!(rt; entries > 8000 && entries <= 16_001);
+}
+
+// What an event is told: its number, or why and where it is refused. It has no clauses, nor has what follows.
+fn told(recorded: &mut Recorded, event: SemEvent) -> Result<u64, (Stop, u64)> {
+    match recorded.act_on(&event) {
+        Ok(receipt) => Ok(receipt.number),
+        Err(Refused { stop, at }) => Err((stop, at)),
+    }
+}
+
+fn entry(recorded: &Recorded, number: u64) -> Option<SemEvent> {
+    recorded.entry(number).copied()
 }
 
 // An event that is refused leaves the history; the end of what lives is recorded.
 #[test]
 fn a_refused_event_is_not_recorded(rt: HostRuntime) {
     let mut recorded = Recorded::new(rt.alloc(), 2).expect(&rt, "memory");
-    let refused = recorded.act_on(&SemEvent::End(99));
-    assert_eq!(rt;
-        refused,
-        Err(Refused {
-            stop: Stop::Unknown,
-            at: 1
-        })
-    );
+    is_not_recorded(&rt, &mut recorded);
+}
+
+fn is_not_recorded(rt: &impl Abort, recorded: &mut Recorded) {
+    assert!(rt; told(recorded, SemEvent::End(99)) == Err((Stop::Unknown, 1)));
     assert_eq!(rt; recorded.entries(), 1);
-    recorded
-        .act_on(&SemEvent::Try(0, 1))
-        .expect(&rt, "a permit");
-    let ended = recorded.act_on(&SemEvent::End(1)).expect(&rt, "an end");
-    assert_eq!(rt; ended.number, 2);
-    assert_eq!(rt; recorded.entry(2).copied(), Some(SemEvent::End(1)));
+    assert!(rt; told(recorded, SemEvent::Try(0, 1)) == Ok(1));
+    assert!(rt; told(recorded, SemEvent::End(1)) == Ok(2));
+    assert!(rt; entry(recorded, 2) == Some(SemEvent::End(1)));
 }
 
 // Runs the program with these words. It has no clauses, so that no test carries what `run_crew` promises.

@@ -1,7 +1,6 @@
-ghost use Rattle.std.specs.Prelude.{◌≡◌};
+ghost use Rattle.std.specs.Prelude.{◌≡◌, ◌≤◌};
 
 use crate::meeting::Meeting;
-use mea_base::Overflow;
 use mea_counted::{Lack, NamedPermit, NamedSemaphore};
 use std::alloc::Global;
 use std::marker::Brand;
@@ -11,163 +10,273 @@ use std::sync::ledger::{Blank, Ledger};
 use std::thread;
 use std::thread::Threads;
 
-// The permits in a list.
-fn listed<L: Ledger>(
+// A call of a semaphore. Permits are told apart by the order in which they are taken.
+#[derive(Clone, Copy)]
+enum Call {
+    Try(usize),
+    Release(usize),
+    End(usize),
+    // Lets a permit go without ending it.
+    Drop(usize),
+    // Merges the second into the first.
+    Merge(usize, usize),
+    Grow(usize, usize),
+    GiveBack(usize, usize),
+    Permits(usize),
+    Parts(usize),
+}
+
+// What a call tells.
+#[derive(Clone, Copy, PartialEq, Eq)]
+enum Reply {
+    Done,
+    Lacks(Lack),
+    Overflow,
+    Count(u64),
+}
+
+type Permits<L> = Vec<Option<NamedPermit<L>>>;
+
+// What a call tells; none of a permit that is not there. It has no clauses, nor has what follows, so that no test carries what
+// the semaphore promises.
+fn answer<L: Ledger, R: Wait>(
+    rt: &R,
+    semaphore: &NamedSemaphore<L>,
+    permits: &mut Permits<L>,
+    call: Call,
+) -> Option<Reply> {
+    match call {
+        Call::Try(n) => tried(rt, semaphore, permits, n),
+        Call::Release(n) => Some(whether_done(semaphore.release(rt, n).is_ok())),
+        Call::End(place) => {
+            taken(permits, place)?.end(rt, semaphore);
+            Some(Reply::Done)
+        }
+        Call::Drop(place) => {
+            drop(taken(permits, place)?);
+            Some(Reply::Done)
+        }
+        Call::Merge(place, other) => {
+            let other = taken(permits, other)?;
+            merged(permits.get_mut(place)?.as_mut()?, other)
+        }
+        Call::Grow(place, n) => {
+            let permit = permits.get_mut(place)?.as_mut()?;
+            Some(whether_done(permit.grow(rt, semaphore, n).is_ok()))
+        }
+        Call::GiveBack(place, n) => {
+            given_back(rt, semaphore, permits.get_mut(place)?.as_mut()?, n)
+        }
+        Call::Permits(place) => {
+            let permit = permits.get(place)?.as_ref()?;
+            Some(Reply::Count(permit.permits() as u64))
+        }
+        Call::Parts(place) => Some(Reply::Count(permits.get(place)?.as_ref()?.parts())),
+    }
+}
+
+fn whether_done(done: bool) -> Reply {
+    if done { Reply::Done } else { Reply::Overflow }
+}
+
+fn taken<L: Ledger>(permits: &mut Permits<L>, place: usize) -> Option<NamedPermit<L>> {
+    permits.get_mut(place)?.take()
+}
+
+fn tried<L: Ledger, R: Wait>(
+    rt: &R,
+    semaphore: &NamedSemaphore<L>,
+    permits: &mut Permits<L>,
+    n: usize,
+) -> Option<Reply> {
+    match semaphore.try_acquire(rt, n) {
+        Ok(permit) => {
+            permits.push(Some(permit)).ok()?;
+            Some(Reply::Done)
+        }
+        Err(lack) => Some(Reply::Lacks(lack)),
+    }
+}
+
+fn merged<L: Ledger>(permit: &mut NamedPermit<L>, other: NamedPermit<L>) -> Option<Reply> {
+    permit.permits().checked_add(other.permits())?;
+    permit.parts().checked_add(other.parts())?;
+    permit.merge(other);
+    Some(Reply::Done)
+}
+
+fn given_back<L: Ledger, R: Wait>(
+    rt: &R,
+    semaphore: &NamedSemaphore<L>,
+    permit: &mut NamedPermit<L>,
+    n: usize,
+) -> Option<Reply> {
+    let held = permit.permits();
+    if n > held {
+        return None;
+    }
+    permit.give_back(rt, semaphore, n);
+    Some(Reply::Done)
+}
+
+// The place of the first call that tells something else.
+fn differs<L: Ledger, R: Wait>(
+    rt: &R,
+    semaphore: &NamedSemaphore<L>,
+    permits: &mut Permits<L>,
+    script: &[(Call, Reply)],
+) -> Option<usize> {
+    for (place, (call, told)) in script.iter().enumerate() {
+        if answer(rt, semaphore, permits, *call) != Some(*told) {
+            return Some(place);
+        }
+    }
+    None
+}
+
+// The permits that are there.
+fn kept<L: Ledger>(
     rt: &impl Abort,
     alloc: Global,
-    first: NamedPermit<L>,
-    second: Option<NamedPermit<L>>,
+    permits: &mut Permits<L>,
 ) -> Vec<NamedPermit<L>> {
-    let mut permits = Vec::new(alloc);
-    permits.push(first).expect(rt, "memory");
-    if let Some(permit) = second {
-        permits.push(permit).expect(rt, "memory");
+    let mut kept = Vec::new(alloc);
+    for place in 0..permits.len() {
+        if let Some(permit) = taken(permits, place) {
+            kept.push(permit).expect(rt, "memory");
+        }
     }
-    permits
+    kept
 }
 
-// Why a try is refused, if it is. It has no clauses, nor has what follows, so that no test carries what the semaphore promises.
+// What a close comes to: how many permits are held, and how many are free; or how many parts came back, and of how many.
+type Closed = Result<(usize, usize), (u64, u64)>;
+
+fn closed<L: Ledger>(semaphore: NamedSemaphore<L>, permits: Vec<NamedPermit<L>>) -> Closed {
+    match semaphore.close(permits) {
+        Ok(core) => Ok((core.held(), core.available_permits())),
+        Err(missing) => Err((missing.parts, missing.of)),
+    }
+}
+
+// A semaphore of so many parts and permits, what is called, and what a close comes to then.
+struct Row {
+    parts: u64,
+    permits: usize,
+    script: &'static [(Call, Reply)],
+    closed: Closed,
+}
+
+const ROWS: &[Row] = &[
+    // A try takes what is free, or tells what lacks; no clause refuses one that is refused at once. A single part is left in
+    // the end: permits are told first.
+    Row {
+        parts: 3,
+        permits: 5,
+        script: &[
+            (Call::Try(6), Reply::Lacks(Lack::Permits)),
+            (Call::Try(2), Reply::Done),
+            (Call::Try(0), Reply::Done),
+            (Call::Try(4), Reply::Lacks(Lack::Permits)),
+            (Call::Try(3), Reply::Lacks(Lack::Parts)),
+            (Call::Try(0), Reply::Lacks(Lack::Parts)),
+            (Call::End(1), Reply::Done),
+            (Call::Try(3), Reply::Done),
+        ],
+        closed: Ok((5, 0)),
+    },
+    // A release adds permits; no clause refuses one that adds nothing.
+    Row {
+        parts: 2,
+        permits: 1,
+        script: &[
+            (Call::Release(usize::MAX), Reply::Overflow),
+            (Call::Release(2), Reply::Done),
+            (Call::Try(3), Reply::Done),
+        ],
+        closed: Ok((3, 0)),
+    },
+    // An end gives back all permits and the part; no clause refuses one that only drops the permit.
+    Row {
+        parts: 2,
+        permits: 4,
+        script: &[
+            (Call::Try(4), Reply::Done),
+            (Call::End(0), Reply::Done),
+            (Call::Try(4), Reply::Done),
+            (Call::End(1), Reply::Done),
+            (Call::Try(4), Reply::Done),
+            (Call::End(2), Reply::Done),
+        ],
+        closed: Ok((0, 4)),
+    },
+    // A permit that is dropped is missing.
+    Row {
+        parts: 4,
+        permits: 2,
+        script: &[
+            (Call::Try(1), Reply::Done),
+            (Call::Try(1), Reply::Done),
+            (Call::Drop(1), Reply::Done),
+        ],
+        closed: Err((3, 4)),
+    },
+    // Merged permits end as one.
+    Row {
+        parts: 4,
+        permits: 7,
+        script: &[
+            (Call::Try(2), Reply::Done),
+            (Call::Try(3), Reply::Done),
+            (Call::Merge(0, 1), Reply::Done),
+            (Call::Permits(0), Reply::Count(5)),
+            (Call::Parts(0), Reply::Count(2)),
+            (Call::End(0), Reply::Done),
+            (Call::Try(7), Reply::Done),
+        ],
+        closed: Ok((7, 0)),
+    },
+    // A permit grows and gives back; what it grew by is held, and not free.
+    Row {
+        parts: 3,
+        permits: 1,
+        script: &[
+            (Call::Try(1), Reply::Done),
+            (Call::Grow(0, usize::MAX), Reply::Overflow),
+            (Call::Grow(0, 4), Reply::Done),
+            (Call::Permits(0), Reply::Count(5)),
+            (Call::Try(1), Reply::Lacks(Lack::Permits)),
+            (Call::GiveBack(0, 3), Reply::Done),
+            (Call::Try(3), Reply::Done),
+        ],
+        closed: Ok((5, 0)),
+    },
+];
+
+// Plays a row on a semaphore of so many parts, which are those of its ledger.
+fn plays<L: Ledger, R: Wait + Abort>(rt: &R, alloc: Global, blank: Blank, parts: u64, row: &Row)
+    requires name { blank.name ≡ L.name }
+    requires parts { (blank.parts ≡ L.parts) × (L.parts ≡ parts) × (2 ≤ parts) }
+{
+    let semaphore = NamedSemaphore::<L>::new(alloc, blank, parts, row.permits);
+    let mut permits = Vec::new(alloc);
+    assert_eq!(rt; differs(rt, &semaphore, &mut permits, row.script), None);
+    let kept = kept(rt, alloc, &mut permits);
+    assert!(rt; closed(semaphore, kept) == row.closed);
+}
+
+#[test]
+fn calls_of_a_counted_semaphore(rt: HostRuntime) {
+    for row in ROWS {
+        let parts = row.parts;
+        assert!(rt; parts >= 2);
+        plays::<Brand, HostRuntime>(&rt, rt.alloc(), Blank::new(parts), parts, row);
+    }
+}
+
+// Why a try is refused, if it is.
 fn lack<L: Ledger, R: Wait>(rt: &R, semaphore: &NamedSemaphore<L>, n: usize) -> Option<Lack> {
     semaphore.try_acquire(rt, n).err()
-}
-
-// How many permits are held, and how many are free, in what a close gives out; none where parts are missing.
-fn closed<L: Ledger>(
-    semaphore: NamedSemaphore<L>,
-    permits: Vec<NamedPermit<L>>,
-) -> Option<(usize, usize)> {
-    let core = semaphore.close(permits).ok()?;
-    Some((core.held(), core.available_permits()))
-}
-
-// How many parts came back of how many, where some are missing.
-fn missing<L: Ledger>(
-    semaphore: NamedSemaphore<L>,
-    permits: Vec<NamedPermit<L>>,
-) -> Option<(u64, u64)> {
-    let missing = semaphore.close(permits).err()?;
-    Some((missing.parts, missing.of))
-}
-
-fn tries<L: Ledger, R: Wait + Abort>(rt: &R, alloc: Global, blank: Blank)
-    requires name { blank.name ≡ L.name }
-    requires parts { (blank.parts ≡ L.parts) × (L.parts ≡ 3) }
-{
-    let semaphore = NamedSemaphore::<L>::new(alloc, blank, 3, 5);
-    assert!(rt; lack(rt, &semaphore, 6) == Some(Lack::Permits));
-    let first = semaphore.try_acquire(rt, 2).expect(rt, "a permit");
-    let second = semaphore.try_acquire(rt, 0).expect(rt, "a permit");
-    // A single part is left: permits are told first.
-    assert!(rt; lack(rt, &semaphore, 4) == Some(Lack::Permits));
-    assert!(rt; lack(rt, &semaphore, 3) == Some(Lack::Parts));
-    assert!(rt; lack(rt, &semaphore, 0) == Some(Lack::Parts));
-    second.end(rt, &semaphore);
-    let third = semaphore.try_acquire(rt, 3).expect(rt, "a permit");
-    let permits = listed(rt, alloc, first, Some(third));
-    assert!(rt; closed(semaphore, permits) == Some((5, 0)));
-}
-
-// No clause refuses a try that is refused at once.
-#[test]
-fn a_try_takes_what_is_free_or_tells_what_lacks(rt: HostRuntime) {
-    tries::<Brand, HostRuntime>(&rt, rt.alloc(), Blank::new(3));
-}
-
-fn releases<L: Ledger, R: Wait + Abort>(rt: &R, alloc: Global, blank: Blank)
-    requires name { blank.name ≡ L.name }
-    requires parts { (blank.parts ≡ L.parts) × (L.parts ≡ 2) }
-{
-    let semaphore = NamedSemaphore::<L>::new(alloc, blank, 2, 1);
-    assert_eq!(rt; semaphore.release(rt, usize::MAX), Err(Overflow));
-    assert_eq!(rt; semaphore.release(rt, 2), Ok(()));
-    let permit = semaphore.try_acquire(rt, 3).expect(rt, "three permits");
-    let permits = listed(rt, alloc, permit, None);
-    assert!(rt; closed(semaphore, permits) == Some((3, 0)));
-}
-
-// No clause refuses a release that adds nothing.
-#[test]
-fn a_release_adds_permits(rt: HostRuntime) {
-    releases::<Brand, HostRuntime>(&rt, rt.alloc(), Blank::new(2));
-}
-
-fn ends<L: Ledger, R: Wait + Abort>(rt: &R, alloc: Global, blank: Blank)
-    requires name { blank.name ≡ L.name }
-    requires parts { (blank.parts ≡ L.parts) × (L.parts ≡ 2) }
-{
-    let semaphore = NamedSemaphore::<L>::new(alloc, blank, 2, 4);
-    for _ in 0..3u32 {
-        let permit = semaphore.try_acquire(rt, 4).expect(rt, "all permits");
-        permit.end(rt, &semaphore);
-    }
-    assert!(rt; closed(semaphore, Vec::new(alloc)) == Some((0, 4)));
-}
-
-// No clause refuses an end that only drops the permit.
-#[test]
-fn an_end_gives_back_all_permits_and_the_part(rt: HostRuntime) {
-    ends::<Brand, HostRuntime>(&rt, rt.alloc(), Blank::new(2));
-}
-
-fn drops<L: Ledger, R: Wait + Abort>(rt: &R, alloc: Global, blank: Blank)
-    requires name { blank.name ≡ L.name }
-    requires parts { (blank.parts ≡ L.parts) × (L.parts ≡ 4) }
-{
-    let semaphore = NamedSemaphore::<L>::new(alloc, blank, 4, 2);
-    let kept = semaphore.try_acquire(rt, 1).expect(rt, "a permit");
-    let dropped = semaphore.try_acquire(rt, 1);
-    assert!(rt; dropped.is_ok());
-    drop(dropped);
-    let permits = listed(rt, alloc, kept, None);
-    assert!(rt; missing(semaphore, permits) == Some((3, 4)));
-}
-
-#[test]
-fn a_dropped_permit_is_missing(rt: HostRuntime) {
-    drops::<Brand, HostRuntime>(&rt, rt.alloc(), Blank::new(4));
-}
-
-fn merges<L: Ledger, R: Wait + Abort>(rt: &R, alloc: Global, blank: Blank)
-    requires name { blank.name ≡ L.name }
-    requires parts { (blank.parts ≡ L.parts) × (L.parts ≡ 4) }
-{
-    let semaphore = NamedSemaphore::<L>::new(alloc, blank, 4, 7);
-    let mut one = semaphore.try_acquire(rt, 2).expect(rt, "a permit");
-    let other = semaphore.try_acquire(rt, 3).expect(rt, "a permit");
-    one.merge(other);
-    assert_eq!(rt; one.permits(), 5);
-    assert_eq!(rt; one.parts(), 2);
-    one.end(rt, &semaphore);
-    let last = semaphore.try_acquire(rt, 7).expect(rt, "all permits");
-    let permits = listed(rt, alloc, last, None);
-    assert!(rt; closed(semaphore, permits) == Some((7, 0)));
-}
-
-#[test]
-fn merged_permits_end_as_one(rt: HostRuntime) {
-    merges::<Brand, HostRuntime>(&rt, rt.alloc(), Blank::new(4));
-}
-
-fn grows<L: Ledger, R: Wait + Abort>(rt: &R, alloc: Global, blank: Blank)
-    requires name { blank.name ≡ L.name }
-    requires parts { (blank.parts ≡ L.parts) × (L.parts ≡ 3) }
-{
-    let semaphore = NamedSemaphore::<L>::new(alloc, blank, 3, 1);
-    let mut permit = semaphore.try_acquire(rt, 1).expect(rt, "a permit");
-    assert_eq!(rt; permit.grow(rt, &semaphore, usize::MAX), Err(Overflow));
-    assert_eq!(rt; permit.grow(rt, &semaphore, 4), Ok(()));
-    assert_eq!(rt; permit.permits(), 5);
-    // What it grew by is held, and not free.
-    assert!(rt; lack(rt, &semaphore, 1) == Some(Lack::Permits));
-    permit.give_back(rt, &semaphore, 3);
-    let other = semaphore.try_acquire(rt, 3).expect(rt, "what came back");
-    let permits = listed(rt, alloc, permit, Some(other));
-    assert!(rt; closed(semaphore, permits) == Some((5, 0)));
-}
-
-#[test]
-fn a_permit_grows_and_gives_back(rt: HostRuntime) {
-    grows::<Brand, HostRuntime>(&rt, rt.alloc(), Blank::new(3));
 }
 
 // Tries for a permit, and holds it until the other's try was answered too; a third is refused then.
@@ -211,7 +320,7 @@ fn holds<L: Ledger + Send + Sync, R: Threads + Wait + Abort + Sync>(
     );
     assert!(rt; one && other);
     assert_eq!(rt; meeting.late(), 0);
-    assert!(rt; closed(semaphore, Vec::new(alloc)) == Some((0, 2)));
+    assert!(rt; closed(semaphore, Vec::new(alloc)) == Ok((0, 2)));
 }
 
 // Two threads run at the same time: neither ends its permit before the other's try was answered.

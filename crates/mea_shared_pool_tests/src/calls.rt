@@ -10,18 +10,26 @@ use std::sync::{Arc, Wait};
 fn leases_go_in_the_order_of_first_polls(rt: HostRuntime) {
     let one = bell(&rt);
     let two = bell(&rt);
-    let undrained: Pool<u64, Bell> = pool(&rt, 2);
-    let pool = undrained
-        .into_resources()
-        .err()
-        .expect(&rt, "a pool that is not drained");
+    let pool = undrained(&rt, pool(&rt, 2));
     go_in_order(&rt, &pool, &one, &two);
-    pool.drain(&rt);
-    let resources = pool
-        .into_resources()
-        .ok()
-        .expect(&rt, "a pool that is drained");
-    assert_eq!(&rt; resources.as_slice(), [31, 22].as_slice());
+    leaves(&rt, pool, &[31, 22]);
+}
+
+// A pool that is not drained does not give its resources out.
+fn undrained(rt: &impl Abort, pool: Pool<u64, Bell>) -> Pool<u64, Bell> {
+    match pool.into_resources() {
+        Ok(_) => panic!(rt; "a pool that is not drained"),
+        Err(pool) => pool,
+    }
+}
+
+// Drains a pool, whose resources are these then.
+fn leaves<R: Wait + Abort>(rt: &R, pool: Pool<u64, Bell>, resources: &[u64]) {
+    pool.drain(rt);
+    match pool.into_resources() {
+        Ok(left) => assert!(rt; left.as_slice() == resources),
+        Err(_) => panic!(rt; "a pool that is drained"),
+    }
 }
 
 fn go_in_order<R: Wait + Abort>(rt: &R, pool: &Pool<u64, Bell>, one: &Count, two: &Count) {
@@ -53,11 +61,7 @@ fn waits_are_given_up_and_the_pool_drains(rt: HostRuntime) {
     let pool = pool(&rt, 1);
     hands_on(&rt, &pool, &one, &two);
     drains(&rt, &pool, &three, &four);
-    let resources = pool
-        .into_resources()
-        .ok()
-        .expect(&rt, "a pool that is drained");
-    assert_eq!(&rt; resources.as_slice(), [50].as_slice());
+    leaves(&rt, pool, &[50]);
 }
 
 fn hands_on<R: Wait + Abort>(rt: &R, pool: &Pool<u64, Bell>, one: &Count, two: &Count) {

@@ -1,8 +1,14 @@
 use crate::play::Reply::{Count, Done, Gone, Leased, Made, No, Pending, Ready, Two, Unknown, Yes};
 use crate::play::{Call, Reply, Room};
 use mea_test_support::differs_at;
+use std::process::Abort;
 
 type Script = &'static [(Call, (Reply, Option<u64>))];
+
+// The place of the first call of a pool of so many resources that tells something else.
+fn differs(rt: &(impl Abort + AllocGlobal), size: usize, script: Script) -> Option<usize> {
+    differs_at(Room::new(rt.alloc(), size).expect(rt, "memory"), script)
+}
 
 // Two resources: a lease that waits gets the one that is put back, one that waits when the pool drains is refused, and who
 // waits for the end is woken by the last lease.
@@ -34,8 +40,7 @@ const TWO: Script = &[
 
 #[test]
 fn two_resources(rt: HostRuntime) {
-    let room = Room::new(rt.alloc(), 2).expect(&rt, "memory");
-    assert_eq!(rt; differs_at(room, TWO), None);
+    assert_eq!(rt; differs(&rt, 2, TWO), None);
 }
 
 // One resource: a wait that was granted and then ended drains the pool, and a lease that was put back is gone.
@@ -58,8 +63,7 @@ const ONE: Script = &[
 
 #[test]
 fn one_resource(rt: HostRuntime) {
-    let room = Room::new(rt.alloc(), 1).expect(&rt, "memory");
-    assert_eq!(rt; differs_at(room, ONE), None);
+    assert_eq!(rt; differs(&rt, 1, ONE), None);
 }
 
 // Waits for the end are woken in the order of their first polls, and one that was ended is not.
@@ -81,6 +85,5 @@ const WAITS: Script = &[
 
 #[test]
 fn waits_for_the_end(rt: HostRuntime) {
-    let room = Room::new(rt.alloc(), 0).expect(&rt, "memory");
-    assert_eq!(rt; differs_at(room, WAITS), None);
+    assert_eq!(rt; differs(&rt, 0, WAITS), None);
 }

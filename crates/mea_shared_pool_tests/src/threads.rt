@@ -2,6 +2,7 @@ use crate::leases::{bell, pool};
 use mea_shared_pool::{Closed, Pool};
 use mea_test_support::{Bell, Count, polled_for};
 use mea_wait::End;
+use std::process::Abort;
 use std::sync::Wait;
 use std::sync::atomic::AtomicU64;
 use std::sync::atomic::Ordering::SeqCst;
@@ -14,6 +15,19 @@ struct Place {
     rung: Count,
     // How many leases were got.
     leases: AtomicU64,
+    // Whether the first thread drains the pool.
+    drains: bool,
+}
+
+impl Place {
+    fn new(rt: &(impl Abort + AllocGlobal), pool: Pool<u64, Bell>, drains: bool) -> Place {
+        Place {
+            pool,
+            rung: bell(rt),
+            leases: AtomicU64::new(0),
+            drains,
+        }
+    }
 }
 
 // One wait of a thread, given up before its first poll or after as many polls as told, or polled until it has a lease, by which
@@ -50,11 +64,21 @@ fn asks_often<R: Wait>(rt: &R, place: &Place, thread: u64) {
     }
 }
 
+// Who drains the pool waits for the end of it, and the others ask often.
+fn plays<R: Wait>(rt: &R, place: &Place, thread: u64) {
+    if place.drains && thread == 0 {
+        place.pool.drain(rt);
+        let _ = polled_for(rt, place.pool.drained(), &place.rung, 10_000_000);
+    } else {
+        asks_often(rt, place, thread);
+    }
+}
+
 fn on_four_threads<R: thread::Threads + Wait + Sync>(rt: &R, place: &Place) {
     thread::scope(thread::scope_env(), rt, |scope| {
         for thread in 0..4u64 {
-            if scope.spawn(move || asks_often(rt, place, thread)).is_err() {
-                asks_often(rt, place, thread);
+            if scope.spawn(move || plays(rt, place, thread)).is_err() {
+                plays(rt, place, thread);
             }
         }
     });
@@ -83,58 +107,38 @@ fn added(resources: &[u64]) -> Option<u64> {
 // was added to them is one for each lease.
 #[test]
 fn waits_given_up_lose_no_resource(rt: HostRuntime) {
-    let rung = bell(&rt);
     let resources = vec![in rt.alloc(); 10_000_000u64, 20_000_000, 30_000_000].expect(
         &rt, "memory",
     );
     let pool = Pool::new(rt.alloc(), resources).ok().expect(&rt, "memory");
-    let place = Place {
-        pool,
-        rung,
-        leases: AtomicU64::new(0),
-    };
+    let place = Place::new(&rt, pool, false);
     on_four_threads(&rt, &place);
     assert!(rt; place.pool.idle(&rt) == 3);
     place.pool.drain(&rt);
     assert!(rt; place.pool.is_drained(&rt));
+    has_one_for_each_lease(&rt, place);
+}
+
+fn has_one_for_each_lease(rt: &impl Abort, place: Place) {
     let Place {
         pool,
         rung: _,
         leases,
+        drains: _,
     } = place;
     let leases = leases.load(SeqCst);
-    let resources = pool
-        .into_resources()
-        .ok()
-        .expect(&rt, "a pool that is drained");
-    assert!(rt; leases > 0 && added(resources.as_slice()) == Some(leases));
+    match pool.into_resources() {
+        Ok(resources) => {
+            assert!(rt; leases > 0 && added(resources.as_slice()) == Some(leases));
+        }
+        Err(_) => panic!(rt; "a pool that is drained"),
+    }
 }
 
 // One thread drains the pool and waits for the end, while three ask until they hear of it.
-fn plays<R: Wait>(rt: &R, place: &Place, thread: u64) -> bool {
-    if thread == 0 {
-        place.pool.drain(rt);
-        return polled_for(rt, place.pool.drained(), &place.rung, 10_000_000).is_some();
-    }
-    asks_often(rt, place, thread);
-    true
-}
-
 #[test]
 fn a_drain_beside_three_who_ask(rt: HostRuntime) {
-    let rung = bell(&rt);
-    let place = Place {
-        pool: pool(&rt, 2),
-        rung,
-        leases: AtomicU64::new(0),
-    };
-    let (rt, of) = (&rt, &place);
-    thread::scope(thread::scope_env(), rt, |scope| {
-        for thread in 0..4u64 {
-            if scope.spawn(move || plays(rt, of, thread)).is_err() {
-                plays(rt, of, thread);
-            }
-        }
-    });
-    assert!(rt; place.pool.is_drained(rt) && place.pool.idle(rt) == 2);
+    let place = Place::new(&rt, pool(&rt, 2), true);
+    on_four_threads(&rt, &place);
+    assert!(rt; place.pool.is_drained(&rt) && place.pool.idle(&rt) == 2);
 }

@@ -1,6 +1,6 @@
 //! Tests of the semaphore, the locks, the meeting points and the channels that threads share, by public contracts alone: each
 //! call once, its answer and the wakers that it woke, waits that ended, which leave nothing behind, and runs of several
-//! threads. Its one function beside them merges permits, so that an edit which merges those of two semaphores is refused.
+//! threads. It has no code but tests.
 #![tactic(auto)]
 
 #[cfg(test)]
@@ -19,6 +19,7 @@ mod lock_threads;
 mod mapped;
 #[cfg(test)]
 mod meeting_points;
+#[cfg(test)]
 mod merging;
 #[cfg(test)]
 mod missing;
@@ -28,5 +29,3 @@ mod mutex;
 mod rwlock;
 #[cfg(test)]
 mod semaphore;
-
-pub use merging::merged;

@@ -7,7 +7,7 @@ use std::sync::Wait;
 
 /// Takes three permits of a semaphore in two parts and merges them, with a permit of another semaphore in hand: how many the
 /// merged one has, where so many were free. That of the other could not be merged, since the contract asks for one semaphore.
-pub fn merged<W: Wake, R: Wait>(
+pub(crate) fn merged<W: Wake, R: Wait>(
     rt: &R,
     semaphore: &Semaphore<W>,
     other: &Semaphore<W>,

@@ -5,11 +5,15 @@ use mea_test_support::{Plays, differs_at};
 use std::alloc::Global;
 use std::mem;
 
+type Lock = MutexCore<u64, u64>;
+
+type Condvar = CondvarCore<u64>;
+
 // A mutex with the value 0, a condition variable and two waits.
 #[derive(Drop)]
 struct Room {
-    lock: MutexCore<u64, u64>,
-    condvar: CondvarCore<u64>,
+    lock: Lock,
+    condvar: Condvar,
     first: CondWait,
     second: CondWait,
 }
@@ -40,36 +44,6 @@ impl Room {
             second: CondWait::new(),
         }
     }
-
-    fn poll_first(&mut self, waker: u64) -> Option<Reply> {
-        Reply::turned(
-            self.condvar
-                .poll_wait_checked(&mut self.lock, &mut self.first, waker),
-        )
-    }
-
-    fn poll_second(&mut self, waker: u64) -> Option<Reply> {
-        Reply::turned(
-            self.condvar
-                .poll_wait_checked(&mut self.lock, &mut self.second, waker),
-        )
-    }
-
-    fn poll_allowed(&mut self, waker: u64) -> Option<Reply> {
-        if !self.condvar.poll_wait_allowed(&self.lock, &self.first) {
-            return Some(No);
-        }
-        Reply::turned(
-            self.condvar
-                .poll_wait(&mut self.lock, &mut self.first, waker),
-        )
-    }
-
-    fn end_first(&mut self) -> Reply {
-        let ended = mem::replace(&mut self.first, CondWait::new());
-        self.condvar.end_wait_checked(&mut self.lock, ended);
-        Done
-    }
 }
 
 impl Plays for Room {
@@ -78,20 +52,47 @@ impl Plays for Room {
     type Reply = Reply;
 
     fn reply(&mut self, call: Call) -> Option<Reply> {
+        let (lock, condvar) = (&mut self.lock, &mut self.condvar);
         match call {
-            Call::PollFirst(waker) => self.poll_first(waker),
-            Call::PollSecond(waker) => self.poll_second(waker),
-            Call::PollAllowed(waker) => self.poll_allowed(waker),
-            Call::EndFirst => Some(self.end_first()),
+            Call::PollFirst(waker) => polled(condvar, lock, &mut self.first, waker),
+            Call::PollSecond(waker) => polled(condvar, lock, &mut self.second, waker),
+            Call::PollAllowed(waker) => polled_if_allowed(condvar, lock, &mut self.first, waker),
+            Call::EndFirst => Some(ended(condvar, lock, &mut self.first)),
             Call::TryLock | Call::Unlock | Call::NextLockWake | Call::Write(_) => {
-                Some(lock_told(&mut self.lock, call))
+                Some(lock_told(lock, call))
             }
-            _ => Some(notified(&mut self.condvar, call)),
+            _ => Some(notified(condvar, call)),
         }
     }
 }
 
-fn lock_told(lock: &mut MutexCore<u64, u64>, call: Call) -> Reply {
+fn polled(
+    condvar: &mut Condvar,
+    lock: &mut Lock,
+    wait: &mut CondWait,
+    waker: u64,
+) -> Option<Reply> {
+    Reply::turned(condvar.poll_wait_checked(lock, wait, waker))
+}
+
+fn polled_if_allowed(
+    condvar: &mut Condvar,
+    lock: &mut Lock,
+    wait: &mut CondWait,
+    waker: u64,
+) -> Option<Reply> {
+    if !condvar.poll_wait_allowed(lock, wait) {
+        return Some(No);
+    }
+    Reply::turned(condvar.poll_wait(lock, wait, waker))
+}
+
+fn ended(condvar: &mut Condvar, lock: &mut Lock, wait: &mut CondWait) -> Reply {
+    condvar.end_wait_checked(lock, mem::replace(wait, CondWait::new()));
+    Done
+}
+
+fn lock_told(lock: &mut Lock, call: Call) -> Reply {
     match call {
         Call::TryLock => Reply::whether(lock.try_lock()),
         Call::NextLockWake => Reply::found(lock.next_wake()),
@@ -103,16 +104,22 @@ fn lock_told(lock: &mut MutexCore<u64, u64>, call: Call) -> Reply {
     }
 }
 
-fn written(lock: &mut MutexCore<u64, u64>, value: u64) -> Reply {
-    if !lock.try_lock() || !lock.is_held() {
+fn written(lock: &mut Lock, value: u64) -> Reply {
+    if !lock.try_lock() {
         return No;
     }
-    *lock.value_mut() = value;
+    set(lock, value);
     lock.unlock_checked();
     Done
 }
 
-fn notified(condvar: &mut CondvarCore<u64>, call: Call) -> Reply {
+fn set(lock: &mut Lock, value: u64) {
+    if lock.is_held() {
+        *lock.value_mut() = value;
+    }
+}
+
+fn notified(condvar: &mut Condvar, call: Call) -> Reply {
     match call {
         Call::NextWake => return Reply::found(condvar.next_wake()),
         Call::NotifyAll => condvar.notify_all(),
@@ -224,26 +231,48 @@ const SCRIPTS: &[Script] = &[
     ],
 ];
 
+// The place of the first call that tells something else.
+fn differs(alloc: Global, script: Script) -> Option<usize> {
+    differs_at(Room::new(alloc), script)
+}
+
 #[test]
 fn waits_of_a_condition_variable(rt: HostRuntime) {
     for script in SCRIPTS {
-        assert_eq!(rt; differs_at(Room::new(rt.alloc()), script), None);
+        assert_eq!(rt; differs(rt.alloc(), script), None);
     }
 }
 
 // A poll of a wait with a condition, by the call that asks for nothing.
 fn while_checked<F: FnMut(&mut u64) -> bool>(
-    room: &mut Room,
+    condvar: &mut Condvar,
+    lock: &mut Lock,
     wait: &mut WaitWhile<F>,
     waker: u64,
 ) -> Option<Reply>
     requires { F.IsAlwaysCallable wait.old.condition }
     ensures { F.IsAlwaysCallable wait.new.condition }
 {
-    Reply::turned(room.condvar.poll_while_checked(&mut room.lock, wait, waker))
+    Reply::turned(condvar.poll_while_checked(lock, wait, waker))
 }
 
-// The same, or by the call that asks for a wait that may be polled.
+// The same, by the call that asks for a wait that may be polled.
+fn while_allowed<F: FnMut(&mut u64) -> bool>(
+    condvar: &mut Condvar,
+    lock: &mut Lock,
+    wait: &mut WaitWhile<F>,
+    waker: u64,
+) -> Option<Reply>
+    requires { F.IsAlwaysCallable wait.old.condition }
+    ensures { F.IsAlwaysCallable wait.new.condition }
+{
+    if !condvar.poll_while_allowed(lock, wait) {
+        return None;
+    }
+    Reply::turned(condvar.poll_while(lock, wait, waker))
+}
+
+// By the one or the other.
 fn while_polled<F: FnMut(&mut u64) -> bool>(
     room: &mut Room,
     wait: &mut WaitWhile<F>,
@@ -254,27 +283,23 @@ fn while_polled<F: FnMut(&mut u64) -> bool>(
     ensures { F.IsAlwaysCallable wait.new.condition }
 {
     if checked {
-        return while_checked(room, wait, waker);
+        return while_checked(&mut room.condvar, &mut room.lock, wait, waker);
     }
-    if !room.condvar.poll_while_allowed(&room.lock, wait) {
-        return None;
-    }
-    Reply::turned(room.condvar.poll_while(&mut room.lock, wait, waker))
+    while_allowed(&mut room.condvar, &mut room.lock, wait, waker)
 }
 
 // The place of the first call that tells something else than stands beside it. None is a poll of a wait that goes on while
 // the value is below 3, whose waker is its place.
 fn while_differs_at(
-    alloc: Global,
+    room: &mut Room,
     checked: bool,
     script: &[(Option<Call>, Reply)],
 ) -> Option<usize> {
-    let mut room = Room::new(alloc);
     let mut wait = WaitWhile::new(|value: &mut u64| *value < 3);
     for (place, &(call, told)) in script.iter().enumerate() {
         let answer = match call {
             Some(call) => room.reply(call),
-            None => while_polled(&mut room, &mut wait, place as u64, checked),
+            None => while_polled(room, &mut wait, place as u64, checked),
         };
         if answer != Some(told) {
             return Some(place);
@@ -282,6 +307,12 @@ fn while_differs_at(
     }
     room.condvar.end_while_checked(&mut room.lock, wait);
     None
+}
+
+// The same of a new room.
+fn while_differs(alloc: Global, checked: bool, script: &[(Option<Call>, Reply)]) -> Option<usize> {
+    let mut room = Room::new(alloc);
+    while_differs_at(&mut room, checked, script)
 }
 
 // A wait goes on while the value is below 3, however often it is notified.
@@ -323,13 +354,13 @@ const EVERY_STAGE_OF_A_WHILE: &[(Option<Call>, Reply)] = &[
 
 #[test]
 fn waits_with_a_condition(rt: HostRuntime) {
-    assert_eq!(rt; while_differs_at(rt.alloc(), true, WAITS_WHILE_BELOW), None);
+    assert_eq!(rt; while_differs(rt.alloc(), true, WAITS_WHILE_BELOW), None);
     assert_eq!(rt;
-        while_differs_at(rt.alloc(), false, EVERY_STAGE_OF_A_WHILE),
+        while_differs(rt.alloc(), false, EVERY_STAGE_OF_A_WHILE),
         None
     );
     assert_eq!(rt;
-        while_differs_at(rt.alloc(), true, EVERY_STAGE_OF_A_WHILE),
+        while_differs(rt.alloc(), true, EVERY_STAGE_OF_A_WHILE),
         None
     );
 }

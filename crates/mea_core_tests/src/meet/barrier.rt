@@ -3,6 +3,7 @@ use crate::play::Reply::{Back, Done, No, Pending, Value, Yes};
 use mea_base::Poll;
 use mea_meet_core::{BarrierCore, BarrierFault, BarrierWait, BarrierWaitResult};
 use mea_test_support::{Plays, differs_at};
+use std::alloc::Global;
 use std::mem;
 
 type Barrier = BarrierCore<u64>;
@@ -66,6 +67,11 @@ fn arrived(polled: Result<Poll<BarrierWaitResult>, BarrierFault<u64>>) -> Option
     }
 }
 
+// The place of the first call of a barrier of so many that tells something else.
+fn differs(alloc: Global, n: u32, script: &[(Call, Reply)]) -> Option<usize> {
+    differs_at(Room::new(BarrierCore::new(alloc, n)), script)
+}
+
 // With memory at hand, no call answers that there is none. Of each two arrivals the second leads and wakes the first, whose
 // wait has ended meanwhile.
 const ARRIVALS: &[(Call, Reply)] = &[
@@ -88,8 +94,7 @@ const ARRIVALS: &[(Call, Reply)] = &[
 
 #[test]
 fn arrivals(rt: HostRuntime) {
-    let room = Room::new(BarrierCore::new(rt.alloc(), 2));
-    assert_eq!(rt; differs_at(room, ARRIVALS), None);
+    assert_eq!(rt; differs(rt.alloc(), 2, ARRIVALS), None);
 }
 
 // Who waited is ready after the round, without leading; 0 counts as 1.
@@ -102,18 +107,22 @@ const ROUNDS: &[(Call, Reply)] = &[
     (Call::IsAllowed, No),
 ];
 
+const ALONE: &[(Call, Reply)] = &[(Call::Arrive(14), Yes)];
+
 #[test]
 fn rounds(rt: HostRuntime) {
-    let room = Room::new(BarrierCore::new(rt.alloc(), 2));
-    assert_eq!(rt; differs_at(room, ROUNDS), None);
-    let alone = Room::new(BarrierCore::new(rt.alloc(), 0));
-    assert_eq!(rt; differs_at(alone, &[(Call::Arrive(14), Yes)]), None);
+    assert_eq!(rt; differs(rt.alloc(), 2, ROUNDS), None);
+    assert_eq!(rt; differs(rt.alloc(), 0, ALONE), None);
 }
 
 // The arrival that would complete the last round is refused, and its waker comes back.
+const LAST_ROUND: &[(Call, Reply)] = &[(Call::Arrive(10), Pending), (Call::Arrive(11), Back(11))];
+
+fn differs_in_the_last_round(alloc: Global, script: &[(Call, Reply)]) -> Option<usize> {
+    differs_at(Room::new(BarrierCore::at_round(alloc, 2, u64::MAX)), script)
+}
+
 #[test]
 fn last_round(rt: HostRuntime) {
-    let script = [(Call::Arrive(10), Pending), (Call::Arrive(11), Back(11))];
-    let room = Room::new(BarrierCore::at_round(rt.alloc(), 2, u64::MAX));
-    assert_eq!(rt; differs_at(room, &script), None);
+    assert_eq!(rt; differs_in_the_last_round(rt.alloc(), LAST_ROUND), None);
 }

@@ -2,6 +2,7 @@ use crate::play::Reply;
 use crate::play::Reply::{Done, No, Nothing, Pending, Value};
 use mea_meet_core::{GroupCore, GroupWait};
 use mea_test_support::{Plays, differs_at};
+use std::alloc::Global;
 
 type Group = GroupCore<u64>;
 
@@ -76,10 +77,19 @@ const GROUP: &[(Call, Reply)] = &[
     (Call::Add, No),
 ];
 
+const FULL: &[(Call, Reply)] = &[(Call::Add, Nothing)];
+
+fn differs(alloc: Global) -> Option<usize> {
+    differs_at(Room::new(GroupCore::new(alloc)), GROUP)
+}
+
+// The same of a group whose count is full.
+fn full_differs(alloc: Global) -> Option<usize> {
+    differs_at(Room::new(GroupCore::at_count(alloc, u32::MAX)), FULL)
+}
+
 #[test]
 fn group(rt: HostRuntime) {
-    let room = Room::new(GroupCore::new(rt.alloc()));
-    assert_eq!(rt; differs_at(room, GROUP), None);
-    let full = Room::new(GroupCore::at_count(rt.alloc(), u32::MAX));
-    assert_eq!(rt; differs_at(full, &[(Call::Add, Nothing)]), None);
+    assert_eq!(rt; differs(rt.alloc()), None);
+    assert_eq!(rt; full_differs(rt.alloc()), None);
 }

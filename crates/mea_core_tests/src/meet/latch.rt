@@ -2,6 +2,7 @@ use crate::play::Reply;
 use crate::play::Reply::{Back, Done, Pending, Value};
 use mea_meet_core::{LatchCore, LatchWait};
 use mea_test_support::{Plays, differs_at};
+use std::alloc::Global;
 use std::mem;
 
 // A call of a latch.
@@ -86,11 +87,13 @@ const LATCH: &[(Call, Reply)] = &[
     (Call::End, Done),
 ];
 
+fn differs(alloc: Global) -> Option<usize> {
+    let latch = LatchCore::new(alloc, 10);
+    let wait = LatchWait::new();
+    differs_at(Room { latch, wait }, LATCH)
+}
+
 #[test]
 fn latch(rt: HostRuntime) {
-    let room = Room {
-        latch: LatchCore::new(rt.alloc(), 10),
-        wait: LatchWait::new(),
-    };
-    assert_eq!(rt; differs_at(room, LATCH), None);
+    assert_eq!(rt; differs(rt.alloc()), None);
 }

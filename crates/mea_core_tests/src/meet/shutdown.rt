@@ -2,6 +2,7 @@ use crate::play::Reply;
 use crate::play::Reply::{Done, No, Nothing, Pending, Value, Yes};
 use mea_meet_core::{GroupWait, LatchWait, ShutdownCore};
 use mea_test_support::{Plays, differs_at};
+use std::alloc::Global;
 
 // A call of a shutdown, each poll of a further wait.
 #[derive(Clone, Copy)]
@@ -81,8 +82,12 @@ const SHUTDOWN: &[(Call, Reply)] = &[
     (Call::Wake, Nothing),
 ];
 
+fn differs(alloc: Global) -> Option<usize> {
+    let shutdown = ShutdownCore::new(alloc);
+    differs_at(Room { shutdown }, SHUTDOWN)
+}
+
 #[test]
 fn shutdown(rt: HostRuntime) {
-    let shutdown = ShutdownCore::new(rt.alloc());
-    assert_eq!(rt; differs_at(Room { shutdown }, SHUTDOWN), None);
+    assert_eq!(rt; differs(rt.alloc()), None);
 }

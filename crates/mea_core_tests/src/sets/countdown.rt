@@ -2,6 +2,7 @@ use crate::play::Reply;
 use crate::play::Reply::{Done, No, Pending, Value};
 use mea_sets::Countdown;
 use mea_test_support::{Plays, differs_at};
+use std::alloc::Global;
 
 // A call of a count, each poll of a further wait.
 #[derive(Clone, Copy)]
@@ -29,7 +30,7 @@ impl Plays for Room {
         let count = &mut self.count;
         match call {
             Call::Poll(waker) => Reply::polled(count.poll(&mut None, waker)),
-            Call::Increment => incremented(count),
+            Call::Increment => Some(Reply::whether(incremented(count)?)),
             Call::Decrement(n) => {
                 count.decrement(n);
                 Some(Done)
@@ -42,11 +43,12 @@ impl Plays for Room {
 }
 
 // Whether a count that has not ended takes one more.
-fn incremented(count: &mut Countdown<u64>) -> Option<Reply> {
-    if count.count() == 0 {
-        return None;
+fn incremented(count: &mut Countdown<u64>) -> Option<bool> {
+    if count.count() > 0 {
+        Some(count.increment(1).is_ok())
+    } else {
+        None
     }
-    Some(Reply::whether(count.increment(1).is_ok()))
 }
 
 // With memory at hand, no poll answers that there is none. A count ends once, and wakes in the order of the registrations.
@@ -69,8 +71,12 @@ const COUNTS: &[(Call, Reply)] = &[
     (Call::Poll(12), Done),
 ];
 
+fn differs(alloc: Global) -> Option<usize> {
+    let count = Countdown::new(alloc, u32::MAX);
+    differs_at(Room { count }, COUNTS)
+}
+
 #[test]
 fn counts(rt: HostRuntime) {
-    let count = Countdown::new(rt.alloc(), u32::MAX);
-    assert_eq!(rt; differs_at(Room { count }, COUNTS), None);
+    assert_eq!(rt; differs(rt.alloc()), None);
 }

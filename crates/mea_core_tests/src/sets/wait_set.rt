@@ -65,45 +65,51 @@ impl Plays for Room {
 
 // Whether a set is drained, if it may be and there is room.
 fn drained(set: &mut WaitSet<u64>, outbox: &mut Outbox<u64>) -> bool {
-    if set.drains() == u128::MAX || outbox.reserve(set.len()).is_err() {
-        return false;
+    match outbox.reserve(set.len()) {
+        Ok(()) if set.drains() < u128::MAX => {
+            set.drain_into(outbox);
+            true
+        }
+        _ => false,
     }
-    set.drain_into(outbox);
-    true
 }
 
-// With memory at hand, no call answers that there is none.
-const AMPLE: &[(Call, Reply)] = &[
-    (Call::RegisterNew(30), Yes),
-    (Call::RegisterWithRoom(31), Yes),
-    (Call::Len, Value(2)),
+type Script = &'static [(Call, Reply)];
+
+const SCRIPTS: &[Script] = &[
+    // With memory at hand, no call answers that there is none.
+    &[
+        (Call::RegisterNew(30), Yes),
+        (Call::RegisterWithRoom(31), Yes),
+        (Call::Len, Value(2)),
+    ],
+    // A number that a wait kept past a drain replaces nobody's waker.
+    &[
+        (Call::Register(10), Yes),
+        (Call::Register(11), Yes),
+        (Call::IsRegistered, Yes),
+        (Call::Drain, Yes),
+        (Call::Len, Value(0)),
+        (Call::RegisterNew(12), Yes),
+        (Call::IsRegistered, No),
+        (Call::HasGiven, Yes),
+        (Call::Register(13), Yes),
+        (Call::Drain, Yes),
+        (Call::Drains, Value(2)),
+        (Call::Wake, Value(11)),
+        (Call::Wake, Value(12)),
+        (Call::Wake, Value(13)),
+        (Call::Wake, Nothing),
+    ],
 ];
 
-#[test]
-fn ample(rt: HostRuntime) {
-    assert_eq!(rt; differs_at(Room::new(rt.alloc()), AMPLE), None);
+fn differs(alloc: Global, script: Script) -> Option<usize> {
+    differs_at(Room::new(alloc), script)
 }
 
-// A number that a wait kept past a drain replaces nobody's waker.
-const NUMBERS_OF_A_SET: &[(Call, Reply)] = &[
-    (Call::Register(10), Yes),
-    (Call::Register(11), Yes),
-    (Call::IsRegistered, Yes),
-    (Call::Drain, Yes),
-    (Call::Len, Value(0)),
-    (Call::RegisterNew(12), Yes),
-    (Call::IsRegistered, No),
-    (Call::HasGiven, Yes),
-    (Call::Register(13), Yes),
-    (Call::Drain, Yes),
-    (Call::Drains, Value(2)),
-    (Call::Wake, Value(11)),
-    (Call::Wake, Value(12)),
-    (Call::Wake, Value(13)),
-    (Call::Wake, Nothing),
-];
-
 #[test]
-fn numbers_of_a_set(rt: HostRuntime) {
-    assert_eq!(rt; differs_at(Room::new(rt.alloc()), NUMBERS_OF_A_SET), None);
+fn calls_of_a_set(rt: HostRuntime) {
+    for script in SCRIPTS {
+        assert_eq!(rt; differs(rt.alloc(), script), None);
+    }
 }

@@ -195,10 +195,15 @@ const SCRIPTS: &[&[(Call, Reply)]] = &[
     ],
 ];
 
+// The place of the first call that tells something else.
+fn differs(alloc: Global, script: &[(Call, Reply)]) -> Option<usize> {
+    differs_at(Room::new(alloc), script)
+}
+
 #[test]
 fn calls_of_a_cell(rt: HostRuntime) {
     for script in SCRIPTS {
-        assert_eq!(rt; differs_at(Room::new(rt.alloc()), script), None);
+        assert_eq!(rt; differs(rt.alloc(), script), None);
     }
 }
 
@@ -213,9 +218,13 @@ fn computed<F: Fn() -> u64>(cell: &mut Cell, compute: F) -> Option<u64>
     }
 }
 
+fn computed_by_a_closure(alloc: Global) -> Option<u64> {
+    let mut cell: Cell = CellCore::new(alloc);
+    computed(&mut cell, || 7)
+}
+
 // A closure is an initialiser.
 #[test]
 fn a_closure_computes(rt: HostRuntime) {
-    let mut cell: Cell = CellCore::new(rt.alloc());
-    assert_eq!(rt; computed(&mut cell, || 7), Some(7));
+    assert_eq!(rt; computed_by_a_closure(rt.alloc()), Some(7));
 }

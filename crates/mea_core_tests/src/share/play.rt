@@ -70,22 +70,6 @@ impl<S: BuildHasher + Drop> Plays for Room<S> {
     }
 }
 
-// What the calls of a script tell, up to the first that finds no memory.
-pub(crate) fn answers<P: Plays<Call = Step, Reply = Reply>>(
-    alloc: Global,
-    mut player: P,
-    script: &[Step],
-) -> Vec<Reply> {
-    let mut answers = Vec::new(alloc);
-    for step in script {
-        match player.reply(*step) {
-            Some(told) if answers.push(told).is_ok() => {}
-            _ => return answers,
-        }
-    }
-    answers
-}
-
 fn named(alloc: Global, name: u64) -> Option<SharedKey<u64>> {
     match SharedKey::new(alloc, name) {
         Ok(key) => Some(key),

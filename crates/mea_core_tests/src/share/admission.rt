@@ -1,11 +1,12 @@
+use crate::play::answers;
 use crate::share::play::Reply::{Done, Number, Overflow, Pending};
 use crate::share::play::Step::{Ask, End, Free, Poll, Release, Try, Waiters, Wake, Weigh, Weight};
-use crate::share::play::{Reply, Room, Step, answers};
+use crate::share::play::{Reply, Room, Step};
 use mea_share_core::FairCore;
 use mea_test_support::{Collides, differs_at};
 use std::alloc::{AllocError, Global};
-use std::hash::{BuildHasherDefault, FoldHasher};
-use std::test::Fail;
+use std::hash::{BuildHasher, BuildHasherDefault, FoldHasher};
+use std::process::Abort;
 
 type Core = FairCore<u64, u64, BuildHasherDefault<FoldHasher>>;
 
@@ -134,11 +135,21 @@ fn core(alloc: Global, permits: usize, sequence: u64) -> Option<Core> {
     Some(FairCore::at_sequence(alloc, permits, hasher, sequence))
 }
 
+// The place of the first call that tells something else, of an admission of so many permits.
+fn differs(
+    rt: &(impl Abort + AllocGlobal),
+    permits: usize,
+    sequence: u64,
+    script: &[(Step, Reply)],
+) -> Option<usize> {
+    let core = core(rt.alloc(), permits, sequence).expect(rt, "a core");
+    differs_at(Room::new(rt.alloc(), core), script)
+}
+
 #[test]
 fn calls_of_an_admission(rt: HostRuntime) {
     for (permits, sequence, script) in SCRIPTS {
-        let core = core(rt.alloc(), *permits, *sequence).expect(&rt, "a core");
-        assert_eq!(rt; differs_at(Room::new(rt.alloc(), core), script), None);
+        assert_eq!(rt; differs(&rt, *permits, *sequence, script), None);
     }
 }
 
@@ -160,17 +171,32 @@ fn crowd(alloc: Global) -> Result<Vec<Step>, AllocError> {
     Ok(script)
 }
 
+fn told_of<S: BuildHasher + Drop>(
+    alloc: Global,
+    core: FairCore<u64, u64, S>,
+    script: &[Step],
+) -> Vec<Reply> {
+    answers(alloc, Room::new(alloc, core), script)
+}
+
+// With hashes that are all equal.
+fn told_alike(alloc: Global, script: &[Step]) -> Vec<Reply> {
+    told_of(alloc, FairCore::with_hasher(alloc, 128, Collides), script)
+}
+
+fn told(alloc: Global, script: &[Step]) -> Vec<Reply> {
+    let core: Core = FairCore::new(alloc, 128);
+    told_of(alloc, core, script)
+}
+
 // Hashes that are all equal change no answer. Of those of weight 2 that wait, the oldest is first.
 #[test]
-fn hashes_change_nothing(rt: HostRuntime) -> Result<(), Fail> {
-    let script = crowd(rt.alloc())?;
-    let core: FairCore<u64, u64, Collides> = FairCore::with_hasher(rt.alloc(), 128, Collides);
-    let alike = answers(rt.alloc(), Room::new(rt.alloc(), core), &script);
-    let core: Core = FairCore::new(rt.alloc(), 128);
-    assert!(rt; alike == answers(rt.alloc(), Room::new(rt.alloc(), core), &script));
+fn hashes_change_nothing(rt: HostRuntime) {
+    let script = crowd(rt.alloc()).expect(&rt, "memory");
+    let alike = told_alike(rt.alloc(), &script);
+    assert!(rt; alike == told(rt.alloc(), &script));
     assert_eq!(rt; alike.len(), 704);
     assert!(rt; alike.get(321).copied() == Some(Number(1)));
     assert!(rt; alike.get(417).copied() == Some(Number(0)));
     assert!(rt; alike.last().copied() == Some(Number(64)));
-    Ok(())
 }

@@ -10,6 +10,7 @@ use mea_broadcast_core::{
 use mea_test_support::{Plays, differs_at};
 use std::alloc::Global;
 use std::mem;
+use std::process::Abort;
 
 type Channel = BroadcastCore<u64, u64>;
 
@@ -258,21 +259,32 @@ fn channel(alloc: Global, capacity: usize) -> Option<Channel> {
     BroadcastCore::new(alloc, capacity).ok()
 }
 
+// The place of the first call of a channel of this capacity that tells something else.
+fn differs(
+    rt: &(impl Abort + AllocGlobal),
+    capacity: usize,
+    script: &[(Call, Reply)],
+) -> Option<usize> {
+    let channel = channel(rt.alloc(), capacity).expect(rt, "memory");
+    differs_at(Room::new(rt.alloc(), channel), script)
+}
+
 #[test]
 fn calls_of_a_broadcast(rt: HostRuntime) {
     for (capacity, script) in SCRIPTS {
-        let channel = channel(rt.alloc(), *capacity).expect(&rt, "memory");
-        assert_eq!(rt; differs_at(Room::new(rt.alloc(), channel), script), None);
+        assert_eq!(rt; differs(&rt, *capacity, script), None);
     }
+}
+
+// Whether a capacity of more than half of all places is refused.
+fn is_too_large(alloc: Global) -> bool {
+    let made: Result<Channel, BroadcastFault> = BroadcastCore::new(alloc, 9223372036854775809);
+    matches!(made, Err(BroadcastFault::Overflow))
 }
 
 #[test]
 fn a_capacity_has_an_end(rt: HostRuntime) {
-    let too_large: Result<Channel, BroadcastFault> = BroadcastCore::new(
-        rt.alloc(),
-        9223372036854775809,
-    );
-    assert!(rt; matches!(too_large, Err(BroadcastFault::Overflow)));
+    assert!(rt; is_too_large(rt.alloc()));
 }
 
 // The last position is not given; the message comes back.
@@ -284,11 +296,12 @@ const THE_TAIL_ENDS: &[(Call, Reply)] = &[
     (Call::TryRecv(0), Value(1)),
 ];
 
+fn differs_at_the_end(rt: &(impl Abort + AllocGlobal), script: &[(Call, Reply)]) -> Option<usize> {
+    let channel = BroadcastCore::at_tail(rt.alloc(), 2, u64::MAX - 1).expect(rt, "memory");
+    differs_at(Room::new(rt.alloc(), channel), script)
+}
+
 #[test]
 fn the_tail_ends(rt: HostRuntime) {
-    let channel = BroadcastCore::at_tail(rt.alloc(), 2, u64::MAX - 1).expect(&rt, "memory");
-    assert_eq!(rt;
-        differs_at(Room::new(rt.alloc(), channel), THE_TAIL_ENDS),
-        None
-    );
+    assert_eq!(rt; differs_at_the_end(&rt, THE_TAIL_ENDS), None);
 }

@@ -43,7 +43,7 @@ impl Plays for Room {
                 Err(SendError(message)) => Closed(message),
             },
             Call::TryRecv => Reply::received(channel.try_recv()),
-            Call::PollRecv(waker) => Reply::polled(channel.poll_recv(waker)),
+            Call::PollRecv(waker) => Reply::heard(channel.poll_recv(waker)),
             Call::HasMessage => Reply::whether(channel.has_message()),
             Call::IsClosed => Reply::whether(channel.is_closed()),
             Call::IsDisconnected => Reply::whether(channel.is_disconnected()),
@@ -93,9 +93,14 @@ const SCRIPTS: &[&[(Call, Reply)]] = &[
     ],
 ];
 
+// The place of the first call that tells something else.
+fn differs(script: &[(Call, Reply)]) -> Option<usize> {
+    differs_at(Room::new(), script)
+}
+
 #[test]
 fn calls_of_a_oneshot_channel(rt: HostRuntime) {
     for script in SCRIPTS {
-        assert_eq!(rt; differs_at(Room::new(), script), None);
+        assert_eq!(rt; differs(script), None);
     }
 }

@@ -2,6 +2,7 @@ use crate::inits::Finishing;
 use mea_base::{NoMemory, Poll};
 use mea_meet_core::LatchWait;
 use mea_once_core::{InitCall, OnceCore};
+use std::process::Abort;
 
 type Polled = Result<Poll<()>, (u64, NoMemory)>;
 
@@ -31,18 +32,22 @@ fn woken(once: &mut OnceCore<u64>) -> Option<u64> {
 #[test]
 fn a_once_wakes_waits_first(rt: HostRuntime) {
     let mut once: OnceCore<u64> = OnceCore::new(rt.alloc());
+    wakes_waits_first(&rt, &mut once);
+}
+
+fn wakes_waits_first(rt: &impl Abort, once: &mut OnceCore<u64>) {
     let mut first = InitCall::new(Finishing { finished: false });
     let mut second = InitCall::new(Finishing { finished: false });
     let mut wait = LatchWait::new();
-    assert_eq!(rt; called(&mut once, &mut first, 10), Some(false));
-    assert_eq!(rt; called(&mut once, &mut second, 11), Some(false));
-    assert_eq!(rt; waited(&mut once, &mut wait, 12), Some(false));
+    assert!(rt; called(once, &mut first, 10) == Some(false));
+    assert!(rt; called(once, &mut second, 11) == Some(false));
+    assert!(rt; waited(once, &mut wait, 12) == Some(false));
     first.init.finished = true;
-    assert_eq!(rt; called(&mut once, &mut first, 13), Some(true));
+    assert!(rt; called(once, &mut first, 13) == Some(true));
     assert!(rt; once.is_completed());
-    assert_eq!(rt; woken(&mut once), Some(12));
-    assert_eq!(rt; woken(&mut once), Some(11));
-    assert_eq!(rt; called(&mut once, &mut second, 14), Some(true));
-    assert_eq!(rt; waited(&mut once, &mut wait, 15), Some(true));
-    assert_eq!(rt; woken(&mut once), None);
+    assert!(rt; woken(once) == Some(12));
+    assert!(rt; woken(once) == Some(11));
+    assert!(rt; called(once, &mut second, 14) == Some(true));
+    assert!(rt; waited(once, &mut wait, 15) == Some(true));
+    assert!(rt; woken(once).is_none());
 }

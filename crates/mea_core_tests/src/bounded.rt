@@ -4,6 +4,7 @@ use mea_base::{NoMemory, Poll};
 use mea_chan_core::{BoundedCore, SendError, SendWait, TrySendError};
 use mea_test_support::{Plays, differs_at};
 use std::alloc::Global;
+use std::process::Abort;
 
 type Channel = BoundedCore<u64, u64>;
 
@@ -53,7 +54,7 @@ impl Plays for Room {
             Call::EndSend(place) => end_told(&mut self.channel, self.sends.get_mut(place)?),
             Call::TrySend(value) => Some(send_told(&mut self.channel, value)),
             Call::TryRecv => Some(Reply::received(self.channel.try_recv())),
-            Call::PollRecv(waker) => Some(Reply::polled(self.channel.poll_recv(waker).ok()?)),
+            Call::PollRecv(waker) => Some(Reply::heard(self.channel.poll_recv(waker).ok()?)),
             Call::EndSender => Some(sender_ended(&mut self.channel)),
             Call::EndReceiver => Some(receiver_ended(&mut self.channel)),
             Call::Wake => Some(Reply::found(self.channel.next_wake())),
@@ -167,11 +168,15 @@ const SCRIPTS: &[&[(Call, Reply)]] = &[
     ],
 ];
 
+// The place of the first call that tells something else.
+fn differs(rt: &(impl Abort + AllocGlobal), script: &[(Call, Reply)]) -> Option<usize> {
+    differs_at(Room::new(rt.alloc()).expect(rt, "memory"), script)
+}
+
 #[test]
 fn calls_of_a_bounded_channel(rt: HostRuntime) {
     for script in SCRIPTS {
-        let room = Room::new(rt.alloc()).expect(&rt, "memory");
-        assert_eq!(rt; differs_at(room, script), None);
+        assert_eq!(rt; differs(&rt, script), None);
     }
 }
 
@@ -179,11 +184,16 @@ fn calls_of_a_bounded_channel(rt: HostRuntime) {
 #[test]
 fn numbers_have_ends(rt: HostRuntime) {
     assert!(rt; has_no_room(rt.alloc()));
+    assert!(rt; full_takes_senders(&rt) == (false, true));
+}
+
+// Whether a channel with as many senders as it may have takes one more, and whether it does once one has ended.
+fn full_takes_senders(rt: &(impl Abort + AllocGlobal)) -> (bool, bool) {
     let channel = BoundedCore::at_senders(rt.alloc(), 1, usize::MAX);
-    let mut channel: Channel = channel.expect(&rt, "memory");
-    assert!(rt; !takes_a_sender(&mut channel));
+    let mut channel: Channel = channel.expect(rt, "memory");
+    let before = takes_a_sender(&mut channel);
     channel.end_sender_checked();
-    assert!(rt; takes_a_sender(&mut channel));
+    (before, takes_a_sender(&mut channel))
 }
 
 fn has_no_room(alloc: Global) -> bool {

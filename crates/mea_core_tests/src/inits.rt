@@ -18,14 +18,6 @@ impl Settling {
         }
     }
 
-    // One that is settled with this value.
-    pub(crate) fn with(value: u64) -> Self {
-        Settling {
-            result: Some(Ok(value)),
-            waker: None,
-        }
-    }
-
     // Settles it, and tells the waker that is to be called.
     pub(crate) fn settle(&mut self, end: Result<u64, u64>) -> Option<u64> {
         self.result = Some(end);
