@@ -1,35 +1,34 @@
 -- the halls of all families, and what an event does to them
-use Rattle.std.specs.Prelude.{ℕ, ◌+◌, ◌≡◌, ◌++◌, List, Option, refl}
+use Rattle.std.specs.Prelude.{ℕ, ◌+◌, ◌≡◌, ◌++◌, List, Option, Some, None, refl}
 use Rattle.std.specs.Coded.{Coded, code_by, coded×, coded_ℕ, coded_list}
 use Rattle.mea_family.specs.declared.answer.Answer.{Answer}
 use Rattle.mea_family.specs.declared.stop.Stop.{Stop}
 use Rattle.mea_family.specs.Family as families
+use Rattle.mea_family.specs.Family.{Family}
 use Rattle.mea_sem_model.specs.Hall as sem
-use Rattle.mea_sem_model.specs.Cause as sem_cause
-use Rattle.mea_sem_model.specs.Step as sem_step
+use Rattle.mea_sem_model.specs.Runs.{semaphores}
 use Rattle.mea_sem_model.specs.Valid as sem_valid
 use Rattle.mea_sem_model.specs.Waiters as sem_waiters
 use Rattle.mea_sem.specs.Play as sem_plays
 use Rattle.mea_meet_model.specs.Hall as meet
-use Rattle.mea_meet_model.specs.Cause as meet_cause
-use Rattle.mea_meet_model.specs.Step as meet_step
+use Rattle.mea_meet_model.specs.Meets.{meets}
 use Rattle.mea_meet_model.specs.Valid as meet_valid
 use Rattle.mea_meet.specs.Halls as meet_plays
 use Rattle.mea_lock_model.specs.LockHall as lock
-use Rattle.mea_lock_model.specs.Meaning as lock_meaning
+use Rattle.mea_lock_model.specs.LockFamily.{locks_family}
 use Rattle.mea_lock_model.specs.Valid as lock_valid
 use Rattle.mea_lock.specs.Halls as lock_plays
 use Rattle.mea_chan_model.specs.ChanHall as chan
-use Rattle.mea_chan_model.specs.Meaning as chan_meaning
+use Rattle.mea_chan_model.specs.ChanFamily.{chans_family}
 use Rattle.mea_chan_model.specs.Valid as chan_valid
 use Rattle.mea_chan.specs.Halls as chan_plays
 use Rattle.mea_share_model.specs.Admissions as share
-use Rattle.mea_share_model.specs.Meaning as share_meaning
+use Rattle.mea_share_model.specs.ShareFamily.{shares_family}
 use Rattle.mea_share_model.specs.Valid as share_valid
 use Rattle.mea_share.specs.Lends as share_lends
 use Rattle.mea_share.specs.Halls as share_plays
 use Rattle.mea_once_model.specs.OnceHall as once
-use Rattle.mea_once_model.specs.Meaning as once_meaning
+use Rattle.mea_once_model.specs.OnceFamily.{onces_family}
 use Rattle.mea_once_model.specs.Valid as once_valid
 use Rattle.mea_once.specs.Halls as once_plays
 use Rattle.mea_events.specs.declared.event.Event.{Event}
@@ -46,55 +45,90 @@ pub record World : Type 0 where
 abbrev pub empty_world : World
 empty_world = record { semaphores = sem.empty_hall; meets = meet.empty_hall; locks = lock.empty_hall; chans = chan.empty_hall; shares = share.empty_hall; onces = once.empty_hall }
 
+-- the families, by name
+pub data FamilyName : Type 0 where
+  Semaphores Meets Locks Chans Shares Onces : FamilyName
+
+-- a family in the world: its model, its hall there, the world with another in place of that hall, and how many wakers an
+-- event may still make ready
+pub record Embedding : Type 1 where
+  pub family : Family
+  pub hall : World → family.Hall
+  pub with_hall : World → family.Hall → World
+  pub registered : family.Hall → ℕ
+
+-- each family in the world
+abbrev pub embedding : FamilyName → Embedding
+embedding Semaphores = record { family = semaphores; hall = λ w. w.semaphores; with_hall = λ w h. record w { semaphores = h }; registered = sem_waiters.waiters }
+embedding Meets = record { family = meets; hall = λ w. w.meets; with_hall = λ w h. record w { meets = h }; registered = meet.registered }
+embedding Locks = record { family = locks_family; hall = λ w. w.locks; with_hall = λ w h. record w { locks = h }; registered = lock.registered }
+embedding Chans = record { family = chans_family; hall = λ w. w.chans; with_hall = λ w h. record w { chans = h }; registered = chan.registered }
+embedding Shares = record { family = shares_family; hall = λ w. w.shares; with_hall = λ w h. record w { shares = h }; registered = share.registered }
+embedding Onces = record { family = onces_family; hall = λ w. w.onces; with_hall = λ w h. record w { onces = h }; registered = once.registered }
+
+abbrev pub family : FamilyName → Family
+family k = (embedding k).family
+
+-- the hall of a family
+abbrev pub hall : World → (k : FamilyName) → (family k).Hall
+hall w k = (embedding k).hall w
+
+-- the world with this one as the hall of a family
+abbrev pub with_hall : World → (k : FamilyName) → (family k).Hall → World
+with_hall w k h = (embedding k).with_hall w h
+
+-- an event with the family that it is of
+pub record Addressed : Type 0 where
+  pub name : FamilyName
+  pub event : (family name).Event
+
+-- each event goes to its family
+abbrev pub addressed : Event → Addressed
+addressed (Sem e) = record { name = Semaphores; event = e }
+addressed (Meet e) = record { name = Meets; event = e }
+addressed (Lock e) = record { name = Locks; event = e }
+addressed (Chan e) = record { name = Chans; event = e }
+addressed (Share e) = record { name = Shares; event = e }
+addressed (Once e) = record { name = Onces; event = e }
+
+-- an event as one of this family, if it is one
+abbrev pub event_in : (k : FamilyName) → Event → Option (family k).Event
+event_in Semaphores (Sem e) = Some e
+event_in Meets (Meet e) = Some e
+event_in Locks (Lock e) = Some e
+event_in Chans (Chan e) = Some e
+event_in Shares (Share e) = Some e
+event_in Onces (Once e) = Some e
+event_in _ _ = None
+
 -- why an event is refused, if it is: the cause of its own family
 unfoldable pub cause_of : World → Event → Option Stop
-cause_of w (Sem e) = sem_cause.cause_of w.semaphores e
-cause_of w (Meet e) = meet_cause.cause_of w.meets e
-cause_of w (Lock e) = lock_meaning.cause_of w.locks e
-cause_of w (Chan e) = chan_meaning.cause_of w.chans e
-cause_of w (Share e) = share_meaning.cause_of w.shares e
-cause_of w (Once e) = once_meaning.cause_of w.onces e
+cause_of w (Sem e) = semaphores.cause w.semaphores e
+cause_of w (Meet e) = meets.cause w.meets e
+cause_of w (Lock e) = locks_family.cause w.locks e
+cause_of w (Chan e) = chans_family.cause w.chans e
+cause_of w (Share e) = shares_family.cause w.shares e
+cause_of w (Once e) = onces_family.cause w.onces e
 
 -- what an event leaves, and what it tells: its reply with its wakes
 pub record Outcome : Type 0 where
   pub world : World
   pub reply : Answer × List ℕ
 
-abbrev pub of_semaphores : World → families.Outcome sem.Hall → Outcome
-of_semaphores w o = record { world = record w { semaphores = o.hall }; reply = (o.reply, o.wakes) }
+-- what an event of a family leaves and tells, of which this is the outcome in the family's hall
+abbrev pub outcome_in : World → (k : FamilyName) → families.Outcome (family k).Hall → Outcome
+outcome_in w k o = record { world = with_hall w k o.hall; reply = (o.reply, o.wakes) }
 
-abbrev pub of_meets : World → families.Outcome meet.Hall → Outcome
-of_meets w o = record { world = record w { meets = o.hall }; reply = (o.reply, o.wakes) }
-
-abbrev pub of_locks : World → families.Outcome lock.LockHall → Outcome
-of_locks w o = record { world = record w { locks = o.hall }; reply = (o.reply, o.wakes) }
-
-abbrev pub of_chans : World → families.Outcome chan.ChanHall → Outcome
-of_chans w o = record { world = record w { chans = o.hall }; reply = (o.reply, o.wakes) }
-
-abbrev pub of_shares : World → families.Outcome share.ShareHall → Outcome
-of_shares w o = record { world = record w { shares = o.hall }; reply = (o.reply, o.wakes) }
-
-abbrev pub of_onces : World → families.Outcome once.OnceHall → Outcome
-of_onces w o = record { world = record w { onces = o.hall }; reply = (o.reply, o.wakes) }
+abbrev pub step_of : World → ℕ → Addressed → Outcome
+step_of w i a = outcome_in w a.name ((family a.name).step (hall w a.name) i a.event)
 
 -- event number i changes the hall of its own family alone
 unfoldable pub step : World → ℕ → Event → Outcome
-step w i (Sem e) = of_semaphores w (sem_step.step w.semaphores i e)
-step w i (Meet e) = of_meets w (meet_step.step w.meets i e)
-step w i (Lock e) = of_locks w (lock_meaning.step w.locks i e)
-step w i (Chan e) = of_chans w (chan_meaning.step w.chans i e)
-step w i (Share e) = of_shares w (share_meaning.step w.shares i e)
-step w i (Once e) = of_onces w (once_meaning.step w.onces i e)
+step w i e = step_of w i (addressed e)
 
--- the halls of the other families are as they were
+-- the halls of the families that it is not of are as they were
 unfoldable pub OthersStay : Event → World → World → Type 0
-OthersStay (Sem e) old new = (new.meets ≡ old.meets) × (new.locks ≡ old.locks) × (new.chans ≡ old.chans) × (new.shares ≡ old.shares) × (new.onces ≡ old.onces)
-OthersStay (Meet e) old new = (new.semaphores ≡ old.semaphores) × (new.locks ≡ old.locks) × (new.chans ≡ old.chans) × (new.shares ≡ old.shares) × (new.onces ≡ old.onces)
-OthersStay (Lock e) old new = (new.semaphores ≡ old.semaphores) × (new.meets ≡ old.meets) × (new.chans ≡ old.chans) × (new.shares ≡ old.shares) × (new.onces ≡ old.onces)
-OthersStay (Chan e) old new = (new.semaphores ≡ old.semaphores) × (new.meets ≡ old.meets) × (new.locks ≡ old.locks) × (new.shares ≡ old.shares) × (new.onces ≡ old.onces)
-OthersStay (Share e) old new = (new.semaphores ≡ old.semaphores) × (new.meets ≡ old.meets) × (new.locks ≡ old.locks) × (new.chans ≡ old.chans) × (new.onces ≡ old.onces)
-OthersStay (Once e) old new = (new.semaphores ≡ old.semaphores) × (new.meets ≡ old.meets) × (new.locks ≡ old.locks) × (new.chans ≡ old.chans) × (new.shares ≡ old.shares)
+OthersStay e old new = (k : FamilyName) → event_in k e ≡ None → hall new k ≡ hall old k
 
 -- how many wakers an event may still make ready
 abbrev pub registered : World → ℕ
