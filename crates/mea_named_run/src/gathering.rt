@@ -1,4 +1,4 @@
-ghost use Rattle.std.specs.Prelude.{◌≡◌, ◌+◌, ◌<◌, ◌≤◌, ◌^◌, All, IfOk, IfErr, IfSome, OnErr, length, vec_len, sum_by};
+ghost use Rattle.std.specs.Prelude.{◌≡◌, ◌+◌, ◌<◌, ◌≤◌, ◌^◌, All, IfOk, IfErr, IfSome, OnErr, length, filter_map, vec_len, sum_by};
 ghost use Rattle.mea_sem_core.specs.Core.{held_of};
 ghost use Rattle.mea_named_run.specs.Gathered.{IsGathered, IsFault};
 
@@ -114,18 +114,19 @@ fn one_round<L: Ledger, R: Wait>(rt: &R, semaphore: &NamedSemaphore<L>) {
     }
 }
 
-/// The permits that were kept, in a list.
+/// All permits that were kept, in the order of the workers.
 fn together<L: Ledger>(
     alloc: Global,
-    mut kept: Vec<Option<NamedPermit<L>>>,
+    kept: Vec<Option<NamedPermit<L>>>,
 ) -> Result<Vec<NamedPermit<L>>, AllocError>
     requires { All (λ o. IfSome o (λ p. p.permits ≡ 1)) kept.items }
+    ensures all { IfOk result (λ v. v.items ≡ filter_map (λ o. o) kept.items) }
     ensures one { IfOk result (λ v. All (λ p. p.permits ≡ 1) v.items) }
     ensures few { IfOk result (λ v. vec_len v ≤ vec_len kept) }
 {
     let mut permits = Vec::new(alloc);
-    while let Some(last) = kept.pop() {
-        if let Some(permit) = last {
+    for own in kept {
+        if let Some(permit) = own {
             permits.push(permit)?;
         }
     }
