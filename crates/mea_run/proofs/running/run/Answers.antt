@@ -6,6 +6,12 @@ use Rattle.mea_run.proofs.running.run.Goals as goal
 pub returns-then-is_play-clause-woken : goal.returns-then-is_play-clause-woken
 returns-then-is_play-clause-woken g c = λ script play told. c.no_wake_is_lost.ensures (events_of script)
 
+pub returns-in-Some-clause-woken : goal.returns-in-Some-clause-woken
+returns-in-Some-clause-woken g c = λ script play told. c.no_wake_is_lost.ensures (events_of script)
+
+pub returns-in-None-clause-woken : goal.returns-in-None-clause-woken
+returns-in-None-clause-woken g c = λ script play told. c.no_wake_is_lost.ensures (events_of script)
+
 pub returns-then-is_play-clause-order : goal.returns-then-is_play-clause-order
 returns-then-is_play-clause-order g c = λ script play told. c.grants_follow_first_polls.ensures (events_of script)
 
