@@ -17,7 +17,6 @@ use std::marker::Model;
 /// All families of primitives, with one list of the wakers that they have made ready, and how many events were played on
 /// them. Each event is played on its own family, which is lent the list, under its number, by which later events name what
 /// it made.
-#[derive(Drop)]
 pub struct Hall {
     families: Families,
     // It counts each waker that is registered in a family, and so has room for it.
@@ -42,6 +41,18 @@ impl Model for Hall {
       counted : a.ready.registered ≡ registered (world_of a.families);
       few : a.ready.registered ≤ a.events;
     } };
+}
+
+// Written out, so that a hall is taken apart here alone: for a derive it is in each crate that hands one to a generic
+// function, down to the last list of its cores.
+impl Drop for Hall {
+    fn drop(self) {
+        let Hall {
+            families: _,
+            ready: _,
+            events: _,
+        } = self;
+    }
 }
 
 impl Hall {
