@@ -21,10 +21,16 @@ pub use wait::{Admission, OwnedShareWait, ShareWait};
 /// Each call takes the lock round the core, makes its step there, leaves the lock, and wakes whom the step has admitted.
 /// A key is kept behind an `Arc`, so it is never cloned; its hash and its equality run while the lock is held. It ports
 /// `mea::admission::FairShare`; weights are this library's own.
-#[derive(Drop)]
 pub struct FairShare<K: Eq + Hash, W, S: BuildHasher = BuildHasherDefault<FoldHasher>> {
     alloc: Global,
     core: Mutex<FairCore<K, W, S>>,
+}
+
+// Written out: a derive is proved anew in each crate that hands one to a generic function.
+impl<K: Eq + Hash + Drop, W: Drop, S: BuildHasher + Drop> Drop for FairShare<K, W, S> {
+    fn drop(self) {
+        let FairShare { alloc: _, core: _ } = self;
+    }
 }
 
 impl<K: Eq + Hash + Drop, W: Wake> FairShare<K, W, BuildHasherDefault<FoldHasher>> {

@@ -9,7 +9,6 @@ use std::marker::Model;
 /// Wakers that calls have made ready and nobody has called yet, in the order in which they were made so.
 ///
 /// Room is reserved when a waker is registered, so that to make it ready takes no memory.
-#[derive(Drop)]
 pub struct Outbox<W> {
     wakers: VecDeque<W>,
 }
@@ -24,6 +23,13 @@ impl<W> Model for Outbox<W> {
     ghost coded = { wakes_code W.code };
 
     ghost view = { λ o. record { wakers = o.wakers.items; spare = deque_capacity o.wakers - deque_len o.wakers } };
+}
+
+// Written out: a derive is proved anew in each crate that hands one to a generic function.
+impl<W: Drop> Drop for Outbox<W> {
+    fn drop(self) {
+        let Outbox { wakers: _ } = self;
+    }
 }
 
 impl<W> Outbox<W> {

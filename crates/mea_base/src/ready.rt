@@ -7,7 +7,6 @@ use std::marker::Model;
 
 /// The wakers that were made ready, in the order in which they became so, with room for each that is registered in the
 /// families to which the list is lent.
-#[derive(Drop)]
 pub struct Ready<W> {
     outbox: Outbox<W>,
     registered: usize,
@@ -24,6 +23,16 @@ impl<W> Model for Ready<W> {
     ghost view = { λ r. record { wakers = r.outbox.wakers; registered = r.registered } };
 
     ghost invariant = { λ r. r.registered ≤ r.outbox.spare };
+}
+
+// Written out: a derive is proved anew in each crate that hands one to a generic function.
+impl<W: Drop> Drop for Ready<W> {
+    fn drop(self) {
+        let Ready {
+            outbox: _,
+            registered: _,
+        } = self;
+    }
 }
 
 impl<W> Ready<W> {

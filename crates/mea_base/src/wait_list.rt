@@ -18,7 +18,6 @@ use std::sync::ledger::{Blank, Ledger};
 /// Room is reserved before a value is pushed, so that no later call takes memory. The queue is a ring of
 /// links, so that a call looks at a value and its neighbours, however long the queue is. It stands for the
 /// internal `WaitList` of the crate `mea`.
-#[derive(Drop)]
 pub struct WaitList<T> {
     // The values, and from the first reservation on the sentinel.
     nodes: Slab<Node<T>>,
@@ -47,6 +46,17 @@ impl<T> Model for WaitList<T> {
       room : slab_len w.nodes + w.spare ≤ w.nodes.capacity;
       fits : slab_len w.nodes + w.spare < 2 ^ 64;
     } };
+}
+
+// Written out: a derive is proved anew in each crate that hands one to a generic function.
+impl<T: Drop> Drop for WaitList<T> {
+    fn drop(self) {
+        let WaitList {
+            nodes: _,
+            len: _,
+            spare: _,
+        } = self;
+    }
 }
 
 impl<T> WaitList<T> {

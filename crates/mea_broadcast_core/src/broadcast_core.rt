@@ -18,7 +18,6 @@ use std::marker::Model;
 ///
 /// Room for a waker is reserved when it is registered, so that a send takes no memory. It ports
 /// `mea::broadcast::overflow` as pure state.
-#[derive(Drop)]
 pub struct BroadcastCore<T, W> {
     ring: HeapCircularBuffer<T>,
     tail: u64,
@@ -51,6 +50,19 @@ impl<T, W> Model for BroadcastCore<T, W> {
       drains : b.waiting.drains ≤ b.tail + 1;
       drains_of_sends : 0 < b.senders → b.waiting.drains ≤ b.tail;
     } };
+}
+
+// Written out: a derive is proved anew in each crate that hands one to a generic function.
+impl<T: Drop, W: Drop> Drop for BroadcastCore<T, W> {
+    fn drop(self) {
+        let BroadcastCore {
+            ring: _,
+            tail: _,
+            senders: _,
+            waiting: _,
+            outbox: _,
+        } = self;
+    }
 }
 
 impl<T: Clone, W: Drop> BroadcastCore<T, W> {

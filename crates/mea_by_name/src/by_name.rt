@@ -10,7 +10,6 @@ use std::collections::HashMap;
 use std::marker::Model;
 
 /// Things by name. Each call costs a look-up in a hashed map.
-#[derive(Drop)]
 pub struct ByName<X> {
     map: HashMap<u64, X, NameHasher>,
 }
@@ -23,6 +22,13 @@ impl<X> Model for ByName<X> {
     ghost coded = { names_code X.code };
 
     ghost view = { λ m. kept m.map.entries };
+}
+
+// Written out: a derive is proved anew in each crate that hands one to a generic function.
+impl<X: Drop> Drop for ByName<X> {
+    fn drop(self) {
+        let ByName { map: _ } = self;
+    }
 }
 
 impl<X> ByName<X> {

@@ -11,7 +11,6 @@ use std::marker::Model;
 
 /// Things by name, with room for more of them that was made before it is known whether they come. Each call but `reserve`
 /// costs a look-up in a hashed map.
-#[derive(Drop)]
 pub struct Roomy<X> {
     map: HashMap<u64, X, NameHasher>,
 }
@@ -24,6 +23,13 @@ impl<X> Model for Roomy<X> {
     ghost coded = { room_code X.code };
 
     ghost view = { λ m. room_of m.map };
+}
+
+// Written out: a derive is proved anew in each crate that hands one to a generic function.
+impl<X: Drop> Drop for Roomy<X> {
+    fn drop(self) {
+        let Roomy { map: _ } = self;
+    }
 }
 
 impl<X> Roomy<X> {

@@ -20,7 +20,6 @@ use std::mem;
 /// A send that finds the channel full waits its turn on a semaphore without permits: each place that comes free
 /// grants the first of them, who then polls again. Room for the waker of each that waits, and for the receiver's,
 /// is reserved when it begins to wait. It ports `mea::mpsc::bounded` as pure state.
-#[derive(Drop)]
 pub struct BoundedCore<T, W> {
     messages: VecDeque<T>,
     capacity: usize,
@@ -61,6 +60,21 @@ impl<T, W> Model for BoundedCore<T, W> {
       awake : IsSome c.waker → c.ended ≡ false → c.messages.items ≡ [];
       lives : IsSome c.waker → c.ended ≡ false → 0 < c.senders;
     } };
+}
+
+// Written out: a derive is proved anew in each crate that hands one to a generic function.
+impl<T: Drop, W: Drop> Drop for BoundedCore<T, W> {
+    fn drop(self) {
+        let BoundedCore {
+            messages: _,
+            capacity: _,
+            senders: _,
+            ended: _,
+            waker: _,
+            waiting: _,
+            outbox: _,
+        } = self;
+    }
 }
 
 impl<T: Drop, W: Drop> BoundedCore<T, W> {

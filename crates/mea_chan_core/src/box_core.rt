@@ -2,9 +2,15 @@ ghost use Rattle.std.specs.Prelude.{◌≡◌};
 
 /// The core of a box whose content is swapped whole. No call takes memory. It ports `mea::atomicbox::AtomicBox` as pure
 /// state.
-#[derive(Drop)]
 pub struct BoxCore<T> {
     content: Box<T>,
+}
+
+// Written out: a derive is proved anew in each crate that hands one to a generic function.
+impl<T: Drop> Drop for BoxCore<T> {
+    fn drop(self) {
+        let BoxCore { content: _ } = self;
+    }
 }
 
 impl<T: Drop> BoxCore<T> {

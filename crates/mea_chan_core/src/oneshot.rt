@@ -9,7 +9,6 @@ use std::marker::Model;
 ///
 /// It wakes at most once in its life, and no call takes memory. It ports `mea::oneshot` as pure state; the crate keeps
 /// the same states in one atomic word.
-#[derive(Drop)]
 pub struct OneshotCore<T, W> {
     message: Option<T>,
     // Whether the sender has neither sent nor ended.
@@ -34,6 +33,19 @@ impl<T, W> Model for OneshotCore<T, W> {
       awake : IsSome o.waker → o.sender ≡ true;
       once : o.sender ≡ true → o.ready ≡ None;
     } };
+}
+
+// Written out: a derive is proved anew in each crate that hands one to a generic function.
+impl<T: Drop, W: Drop> Drop for OneshotCore<T, W> {
+    fn drop(self) {
+        let OneshotCore {
+            message: _,
+            sender: _,
+            receiver: _,
+            waker: _,
+            ready: _,
+        } = self;
+    }
 }
 
 impl<T: Drop, W: Drop> OneshotCore<T, W> {

@@ -3,9 +3,15 @@ ghost use Rattle.std.specs.Option.{option_map};
 
 /// The core of a box that may be empty, and whose content is swapped whole. No call takes memory. It ports
 /// `mea::atomicbox::AtomicOptionBox` as pure state.
-#[derive(Drop)]
 pub struct OptionBoxCore<T> {
     content: Option<Box<T>>,
+}
+
+// Written out: a derive is proved anew in each crate that hands one to a generic function.
+impl<T: Drop> Drop for OptionBoxCore<T> {
+    fn drop(self) {
+        let OptionBoxCore { content: _ } = self;
+    }
 }
 
 impl<T: Drop> OptionBoxCore<T> {

@@ -12,7 +12,6 @@ use std::marker::Model;
 ///
 /// Room for the receiver's waker is reserved when it begins to wait. It ports `mea::mpsc::unbounded` as pure state; a
 /// send may answer want of memory where the crate aborts.
-#[derive(Drop)]
 pub struct UnboundedCore<T, W> {
     messages: VecDeque<T>,
     senders: usize,
@@ -36,6 +35,19 @@ impl<T, W> Model for UnboundedCore<T, W> {
       awake : IsSome m.waker → m.ended ≡ false → m.messages.items ≡ [];
       lives : IsSome m.waker → m.ended ≡ false → 0 < m.senders;
     } };
+}
+
+// Written out: a derive is proved anew in each crate that hands one to a generic function.
+impl<T: Drop, W: Drop> Drop for UnboundedCore<T, W> {
+    fn drop(self) {
+        let UnboundedCore {
+            messages: _,
+            senders: _,
+            ended: _,
+            waker: _,
+            outbox: _,
+        } = self;
+    }
 }
 
 impl<T: Drop, W: Drop> UnboundedCore<T, W> {

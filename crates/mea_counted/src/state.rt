@@ -15,7 +15,6 @@ use std::sync::ledger::{Blank, Book, Ledger, Share};
 
 /// What lies under the lock of a named semaphore: the core, in which nobody waits, and the book, whose total is the
 /// number of permits that are held.
-#[derive(Drop)]
 pub struct NamedState<L: Ledger> {
     core: SemCore<u64>,
     book: Book<L>,
@@ -47,6 +46,19 @@ impl<L: Ledger> Model for NamedState<L> {
       within : s.parts ≤ s.of;
       whole : s.of ≡ L.parts;
     } };
+}
+
+// Written out: a derive is proved anew in each crate that hands one to a generic function.
+impl<L: Ledger + Drop> Drop for NamedState<L> {
+    fn drop(self) {
+        let NamedState {
+            core: _,
+            book: _,
+            rest: _,
+            parts: _,
+            of: _,
+        } = self;
+    }
 }
 
 impl<L: Ledger> NamedState<L> {

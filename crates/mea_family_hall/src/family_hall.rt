@@ -10,7 +10,6 @@ use std::marker::{Model, PhantomData};
 /// The objects of a family, each by the number of the event that made it, and the wakers that they have made ready.
 ///
 /// Each event costs what its family says, and the wakers that it makes ready.
-#[derive(Drop)]
 pub struct FamilyHall<F: Family<H>, H> {
     family: F,
     ready: Ready<u64>,
@@ -31,6 +30,17 @@ impl<F: Family<H>, H> Model for FamilyHall<F, H> {
       counted : a.ready.registered ≡ F.registered (F.part_of a.family).hall;
       few : a.ready.registered ≤ (F.part_of a.family).next;
     } };
+}
+
+// Written out: a derive is proved anew in each crate that hands one to a generic function.
+impl<F: Family<H> + Drop, H: Drop> Drop for FamilyHall<F, H> {
+    fn drop(self) {
+        let FamilyHall {
+            family: _,
+            ready: _,
+            model: _,
+        } = self;
+    }
 }
 
 impl<F: Family<H>, H> FamilyHall<F, H> {

@@ -20,7 +20,6 @@ use std::marker::Model;
 /// A job has a number, a key and a value. As many run as there are permits; the others are queued, and where a job is
 /// finished the one starts whose key has the fewest running jobs, and among these the least number. What is over leaves a
 /// count behind, and no room.
-#[derive(Drop)]
 pub struct JobCore<W> {
     work: Work,
     // How many jobs may be queued.
@@ -65,6 +64,22 @@ impl<W> Model for JobCore<W> {
       counted : IsCounted c.work.seen c.waiting c.next c.finished c.returned;
       asked : c.work.asked ≤ c.next;
     } };
+}
+
+// Written out: a derive is proved anew in each crate that hands one to a generic function.
+impl<W: Drop> Drop for JobCore<W> {
+    fn drop(self) {
+        let JobCore {
+            work: _,
+            waiting: _,
+            next: _,
+            finished: _,
+            returned: _,
+            results: _,
+            shutdown: _,
+            end: _,
+        } = self;
+    }
 }
 
 // So many receivers less, where one more lives. It wakes nobody.

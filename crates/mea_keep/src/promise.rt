@@ -6,10 +6,16 @@ use mea_once_core::{Init, Never};
 // What stands for a caller's initialiser under the lock: it is pending until its value was put, and hands the waker of its
 // poll over, since whoever computes does it with no lock held. A core whose calls have it keeps wakers that may be none:
 // the poll by which a value is given has none.
-#[derive(Drop)]
 pub struct Promise<V, W> {
     value: Option<V>,
     waker: Option<W>,
+}
+
+// Written out: a derive is proved anew in each crate that hands one to a generic function.
+impl<V: Drop, W: Drop> Drop for Promise<V, W> {
+    fn drop(self) {
+        let Promise { value: _, waker: _ } = self;
+    }
 }
 
 impl<V: Drop, W: Drop> Promise<V, W> {

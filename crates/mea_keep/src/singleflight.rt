@@ -15,9 +15,15 @@ type Core<K, V, S, W> = FlightCore<K, Computed<V>, S, Option<W>>;
 
 /// Calls of one key that come while another computes share its value; the next one computes anew. Each caller has a clone
 /// of the value. It ports `mea::singleflight::Group`.
-#[derive(Drop)]
 pub struct Group<K: Eq + Hash, V, S: BuildHasher, W> {
     keyed: Keyed<Core<K, V, S, W>>,
+}
+
+// Written out: a derive is proved anew in each crate that hands one to a generic function.
+impl<K: Eq + Hash + Drop, V: Drop, S: BuildHasher + Drop, W: Drop> Drop for Group<K, V, S, W> {
+    fn drop(self) {
+        let Group { keyed: _ } = self;
+    }
 }
 
 /// A group with std's hasher, as `Group::new` gives it. It has no secret seed: keys that strangers choose may collide, and ask

@@ -13,9 +13,15 @@ use std::sync::{Mutex, Wait};
 
 /// A place where n meet, round after round: the last to arrive leads, and lets the others go on. It ports
 /// `mea::barrier::Barrier`.
-#[derive(Drop)]
 pub struct Barrier<W> {
     core: Mutex<BarrierCore<Seat<W>>>,
+}
+
+// Written out: a derive is proved anew in each crate that hands one to a generic function.
+impl<W: Drop> Drop for Barrier<W> {
+    fn drop(self) {
+        let Barrier { core: _ } = self;
+    }
 }
 
 /// The future of `Barrier::wait`. It must be polled to its end, or ended; ended, its arrival stays and its waker goes.

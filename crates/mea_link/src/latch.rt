@@ -8,9 +8,15 @@ use std::marker::PhantomData;
 use std::sync::{Arc, Mutex, Wait};
 
 /// A count that falls to 0 and stays there. It ports `mea::latch::Latch`.
-#[derive(Drop)]
 pub struct Latch<W> {
     core: Mutex<CountSeats<W>>,
+}
+
+// Written out: a derive is proved anew in each crate that hands one to a generic function.
+impl<W: Drop> Drop for Latch<W> {
+    fn drop(self) {
+        let Latch { core: _ } = self;
+    }
 }
 
 /// A wait until a latch is at 0. It must be polled to its end, or ended; ended, it leaves nothing behind.

@@ -10,9 +10,15 @@ use std::sync::{Arc, Mutex};
 pub use waits::{OwnedSignal, Signal, SignalWait, Wait};
 
 /// Who asks for the shutdown. It ports `mea::shutdown::ShutdownSend`.
-#[derive(Drop)]
 pub struct ShutdownSend<W> {
     shared: Arc<Shared<W>>,
+}
+
+// Written out: a derive is proved anew in each crate that hands one to a generic function.
+impl<W: Drop> Drop for ShutdownSend<W> {
+    fn drop(self) {
+        let ShutdownSend { shared: _ } = self;
+    }
 }
 
 /// Who shuts down when asked, and is waited for. It must be ended. It ports `mea::shutdown::ShutdownRecv`.
@@ -21,17 +27,32 @@ pub struct ShutdownRecv<W> {
 }
 
 /// Who hears of the shutdown, and is not waited for. It ports `mea::shutdown::ShutdownWatch`.
-#[derive(Drop)]
 pub struct ShutdownWatch<W> {
     shared: Arc<Shared<W>>,
 }
 
+// Written out: a derive is proved anew in each crate that hands one to a generic function.
+impl<W: Drop> Drop for ShutdownWatch<W> {
+    fn drop(self) {
+        let ShutdownWatch { shared: _ } = self;
+    }
+}
+
 /// What the ends of a shutdown share: a latch that the signal opens, and a group of the receivers, each with those
 /// who wait for it.
-#[derive(Drop)]
 pub struct Shared<W> {
     signal: Mutex<CountSeats<W>>,
     receivers: Mutex<CountSeats<W>>,
+}
+
+// Written out: a derive is proved anew in each crate that hands one to a generic function.
+impl<W: Drop> Drop for Shared<W> {
+    fn drop(self) {
+        let Shared {
+            signal: _,
+            receivers: _,
+        } = self;
+    }
 }
 
 /// A shutdown: its sender and its first receiver.

@@ -38,7 +38,6 @@ pub type LockHall = FamilyHall<LockFamily, LockModel>;
 ///
 /// Each lock is a core of its own; a future keeps its wait. Its waker carries the future's name, so the core's
 /// queue tells who waits. Each event costs a few look-ups by name and the wakers that it makes ready.
-#[derive(Drop)]
 pub struct LockFamily {
     kinds: Kinds,
     // The least number that the next event may have, which may be 2^64.
@@ -58,6 +57,13 @@ impl Model for LockFamily {
     ghost view = { λ a. record { hall = hall_of a.kinds.mutexes a.kinds.rw_locks a.kinds.condvars; next = a.next } };
 
     ghost invariant = { λ a. AreBelow a.kinds.mutexes a.kinds.rw_locks a.kinds.condvars a.next };
+}
+
+// Written out: a derive is proved anew in each crate that hands one to a generic function.
+impl Drop for LockFamily {
+    fn drop(self) {
+        let LockFamily { kinds: _, next: _ } = self;
+    }
 }
 
 impl LockFamily {

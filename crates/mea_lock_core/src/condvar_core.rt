@@ -17,7 +17,6 @@ use std::marker::Model;
 /// A wait keeps its number from the poll that gives the lock back to the first poll after its notification,
 /// which asks for the lock again. Room for the waker of each wait is reserved when it begins to wait, so
 /// that to notify takes no memory. It ports the state of `mea::condvar::Condvar`.
-#[derive(Drop)]
 pub struct CondvarCore<W> {
     pub(crate) waiters: WaitList<Note<W>>,
     pub(crate) outbox: Outbox<W>,
@@ -38,6 +37,16 @@ impl<W> Model for CondvarCore<W> {
       room : length c.waiters.order ≤ c.outbox.spare;
       noted : AreNoted c.waiters;
     } };
+}
+
+// Written out: a derive is proved anew in each crate that hands one to a generic function.
+impl<W: Drop> Drop for CondvarCore<W> {
+    fn drop(self) {
+        let CondvarCore {
+            waiters: _,
+            outbox: _,
+        } = self;
+    }
 }
 
 // The stage after a poll of the lock.

@@ -15,7 +15,6 @@ use std::marker::Model;
 /// the guard.
 ///
 /// It ports the state of `mea::mutex::Mutex`.
-#[derive(Drop)]
 pub struct MutexCore<V, W> {
     permits: SemCore<W>,
     value: V,
@@ -31,6 +30,16 @@ impl<V, W> Model for MutexCore<V, W> {
     ghost view = { λ m. record { permits = m.permits; value = m.value } };
 
     ghost invariant = { λ m. IsSound (record { permits = m.permits; value = m.value }) };
+}
+
+// Written out: a derive is proved anew in each crate that hands one to a generic function.
+impl<V: Drop, W: Drop> Drop for MutexCore<V, W> {
+    fn drop(self) {
+        let MutexCore {
+            permits: _,
+            value: _,
+        } = self;
+    }
 }
 
 impl<V, W: Drop> MutexCore<V, W> {

@@ -16,7 +16,6 @@ use std::marker::Model;
 /// and the value. A read holds one permit and a write holds all.
 ///
 /// It ports the state of `mea::rwlock::RwLock`.
-#[derive(Drop)]
 pub struct RwCore<V, W> {
     permits: SemCore<W>,
     value: V,
@@ -35,6 +34,18 @@ impl<V, W> Model for RwCore<V, W> {
     ghost view = { λ m. record { permits = m.permits; value = m.value; most = m.most; writing = m.writing } };
 
     ghost invariant = { λ m. IsSound (record { permits = m.permits; value = m.value; most = m.most; writing = m.writing }) };
+}
+
+// Written out: a derive is proved anew in each crate that hands one to a generic function.
+impl<V: Drop, W: Drop> Drop for RwCore<V, W> {
+    fn drop(self) {
+        let RwCore {
+            permits: _,
+            value: _,
+            most: _,
+            writing: _,
+        } = self;
+    }
 }
 
 // Whether a write is held after a poll.

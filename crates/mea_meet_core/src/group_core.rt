@@ -12,7 +12,6 @@ use std::marker::Model;
 /// The core of a wait group: a count of handles, and those who wait for the end of the last.
 ///
 /// It ports `mea`'s `WaitGroup` without its lock. A further handle is refused where the crate panics.
-#[derive(Drop)]
 pub struct GroupCore<W> {
     countdown: Countdown<W>,
 }
@@ -25,6 +24,13 @@ impl<W> Model for GroupCore<W> {
     ghost coded = { counting_code W.code };
 
     ghost view = { λ g. g.countdown };
+}
+
+// Written out: a derive is proved anew in each crate that hands one to a generic function.
+impl<W: Drop> Drop for GroupCore<W> {
+    fn drop(self) {
+        let GroupCore { countdown: _ } = self;
+    }
 }
 
 impl<W: Drop> GroupCore<W> {

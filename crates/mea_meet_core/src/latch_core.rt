@@ -12,7 +12,6 @@ use std::marker::Model;
 /// The core of a latch: a count that falls to 0 and stays there, and those who wait for that.
 ///
 /// It ports `mea`'s `Latch` without its lock.
-#[derive(Drop)]
 pub struct LatchCore<W> {
     countdown: Countdown<W>,
 }
@@ -25,6 +24,13 @@ impl<W> Model for LatchCore<W> {
     ghost coded = { counting_code W.code };
 
     ghost view = { λ l. l.countdown };
+}
+
+// Written out: a derive is proved anew in each crate that hands one to a generic function.
+impl<W: Drop> Drop for LatchCore<W> {
+    fn drop(self) {
+        let LatchCore { countdown: _ } = self;
+    }
 }
 
 impl<W: Drop> LatchCore<W> {

@@ -17,7 +17,6 @@ use std::marker::Model;
 /// outbox of its own, so that wakers of both keep the order in which they were made ready.
 ///
 /// It ports the state that `mea`'s `ShutdownSend` and `ShutdownRecv` share.
-#[derive(Drop)]
 pub struct ShutdownCore<W> {
     signal: LatchCore<W>,
     receivers: GroupCore<W>,
@@ -39,6 +38,17 @@ impl<W> Model for ShutdownCore<W> {
       signal_moved : s.signal.wakes ≡ [];
       receivers_moved : s.receivers.wakes ≡ [];
     } };
+}
+
+// Written out: a derive is proved anew in each crate that hands one to a generic function.
+impl<W: Drop> Drop for ShutdownCore<W> {
+    fn drop(self) {
+        let ShutdownCore {
+            signal: _,
+            receivers: _,
+            outbox: _,
+        } = self;
+    }
 }
 
 impl<W: Drop> ShutdownCore<W> {

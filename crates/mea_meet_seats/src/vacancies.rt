@@ -9,7 +9,6 @@ use std::marker::Model;
 /// Places that ended waits have given back, for the waits to come, the oldest first.
 ///
 /// Room is reserved when a place is taken, so that to give it back takes no memory.
-#[derive(Drop)]
 pub struct Vacancies<P> {
     places: VecDeque<P>,
 }
@@ -24,6 +23,13 @@ impl<P> Model for Vacancies<P> {
     ghost coded = { vacant_code P.code };
 
     ghost view = { λ v. record { places = v.places.items; spare = deque_capacity v.places - deque_len v.places } };
+}
+
+// Written out: a derive is proved anew in each crate that hands one to a generic function.
+impl<P: Drop> Drop for Vacancies<P> {
+    fn drop(self) {
+        let Vacancies { places: _ } = self;
+    }
 }
 
 impl<P: Drop> Vacancies<P> {

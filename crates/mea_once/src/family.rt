@@ -41,7 +41,6 @@ pub type OnceHall = FamilyHall<OnceFamily, OnceModel>;
 /// Each is a core of its own. The waker of who waits carries its future's name, so the core's queue tells who waits for the
 /// turn; the waker that an unsettled initialiser keeps stands with its cell. Each event costs a few look-ups by name
 /// and the wakers that it makes ready.
-#[derive(Drop)]
 pub struct OnceFamily {
     kinds: Kinds,
     // The least number that the next event may have, which may be 2^64.
@@ -61,6 +60,13 @@ impl Model for OnceFamily {
     ghost view = { λ a. record { hall = hall_of (parts a.kinds.onces a.kinds.cells a.kinds.maps a.kinds.groups); next = a.next } };
 
     ghost invariant = { λ a. AreBelow (parts a.kinds.onces a.kinds.cells a.kinds.maps a.kinds.groups) a.next };
+}
+
+// Written out: a derive is proved anew in each crate that hands one to a generic function.
+impl Drop for OnceFamily {
+    fn drop(self) {
+        let OnceFamily { kinds: _, next: _ } = self;
+    }
 }
 
 impl OnceFamily {

@@ -18,7 +18,6 @@ use std::marker::Model;
 /// A cell that is filled once: a value or none, and the one permit of the calls that may fill it.
 ///
 /// It ports the state of `mea::once::OnceCell`.
-#[derive(Drop)]
 pub struct CellCore<T, W> {
     value: Option<T>,
     permit: Permit<W>,
@@ -35,6 +34,17 @@ impl<T, W> Model for CellCore<T, W> {
     ghost view = { λ c. record { value = c.value; permit = c.permit } };
 
     ghost invariant = { λ c. IsSound (record { value = c.value; permit = c.permit }) };
+}
+
+// Written out: a derive is proved anew in each crate that hands one to a generic function.
+impl<T: Drop, W: Drop> Drop for CellCore<T, W> {
+    fn drop(self) {
+        let CellCore {
+            value: _,
+            permit: _,
+            alloc: _,
+        } = self;
+    }
 }
 
 impl<T: Drop, W: Drop> CellCore<T, W> {

@@ -12,7 +12,6 @@ use std::marker::Model;
 /// call of that key computes anew.
 ///
 /// It ports the state of `mea::singleflight::Group`.
-#[derive(Drop)]
 pub struct FlightCore<K: Eq + Hash, V, S: BuildHasher, W> {
     keyed: Keyed<K, V, S, W>,
 }
@@ -25,6 +24,13 @@ impl<K: Eq + Hash, V, S: BuildHasher, W> Model for FlightCore<K, V, S, W> {
     ghost coded = { keyed_code K.code V.code W.code };
 
     ghost view = { λ m. m.keyed };
+}
+
+// Written out: a derive is proved anew in each crate that hands one to a generic function.
+impl<K: Eq + Hash + Drop, V: Drop, S: BuildHasher + Drop, W: Drop> Drop for FlightCore<K, V, S, W> {
+    fn drop(self) {
+        let FlightCore { keyed: _ } = self;
+    }
 }
 
 impl<K: Eq + Hash + Drop, V: Clone, S: BuildHasher + Drop, W: Drop> FlightCore<K, V, S, W> {

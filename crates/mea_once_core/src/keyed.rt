@@ -13,7 +13,6 @@ use std::hash::{BuildHasher, Hash};
 use std::marker::Model;
 
 // A table of cells, and the wakers that they have made ready, with room for those of all calls that wait.
-#[derive(Drop)]
 pub(crate) struct Keyed<K: Eq + Hash, V, S: BuildHasher, W> {
     table: OnceTable<K, V, S, W>,
     outbox: Outbox<W>,
@@ -36,6 +35,17 @@ impl<K: Eq + Hash, V, S: BuildHasher, W> Model for Keyed<K, V, S, W> {
       counted : k.waiting ≡ waiting_in k.table.slots;
       room : k.waiting ≤ k.outbox.spare;
     } };
+}
+
+// Written out: a derive is proved anew in each crate that hands one to a generic function.
+impl<K: Eq + Hash + Drop, V: Drop, S: BuildHasher + Drop, W: Drop> Drop for Keyed<K, V, S, W> {
+    fn drop(self) {
+        let Keyed {
+            table: _,
+            outbox: _,
+            waiting: _,
+        } = self;
+    }
 }
 
 impl<K: Eq + Hash + Drop, V: Clone, S: BuildHasher + Drop, W: Drop> Keyed<K, V, S, W> {

@@ -11,7 +11,6 @@ use std::marker::Model;
 /// A map whose values are computed once for each key, and stay.
 ///
 /// It ports the state of `mea::once::OnceMap`.
-#[derive(Drop)]
 pub struct MapCore<K: Eq + Hash, V, S: BuildHasher, W> {
     keyed: Keyed<K, V, S, W>,
 }
@@ -24,6 +23,13 @@ impl<K: Eq + Hash, V, S: BuildHasher, W> Model for MapCore<K, V, S, W> {
     ghost coded = { keyed_code K.code V.code W.code };
 
     ghost view = { λ m. m.keyed };
+}
+
+// Written out: a derive is proved anew in each crate that hands one to a generic function.
+impl<K: Eq + Hash + Drop, V: Drop, S: BuildHasher + Drop, W: Drop> Drop for MapCore<K, V, S, W> {
+    fn drop(self) {
+        let MapCore { keyed: _ } = self;
+    }
 }
 
 impl<K: Eq + Hash + Drop, V: Clone, S: BuildHasher + Drop, W: Drop> MapCore<K, V, S, W> {

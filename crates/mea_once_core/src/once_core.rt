@@ -24,7 +24,6 @@ use std::marker::Model;
 /// move to an outbox of its own, so that they keep the order in which they were made ready.
 ///
 /// It ports the state of `mea::once::Once`.
-#[derive(Drop)]
 pub struct OnceCore<W> {
     cell: CellCore<(), W>,
     done: LatchCore<W>,
@@ -46,6 +45,17 @@ impl<W> Model for OnceCore<W> {
       moved : o.done.wakes ≡ [];
       room : length o.done.count.waiting.wakers + length o.cell.permit.queue ≤ o.outbox.spare;
     } };
+}
+
+// Written out: a derive is proved anew in each crate that hands one to a generic function.
+impl<W: Drop> Drop for OnceCore<W> {
+    fn drop(self) {
+        let OnceCore {
+            cell: _,
+            done: _,
+            outbox: _,
+        } = self;
+    }
 }
 
 impl<W: Drop> OnceCore<W> {

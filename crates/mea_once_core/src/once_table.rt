@@ -18,7 +18,6 @@ use std::marker::Model;
 /// numbers of entries in use differ. Nothing is asked of the hashes: they may all collide.
 ///
 /// It ports `mea`'s internal `OnceTable`.
-#[derive(Drop)]
 pub struct OnceTable<K: Eq + Hash, V, S: BuildHasher, W> {
     entries: Slab<Entry<V, W>>,
     numbers: IndexMap<K, usize, S>,
@@ -36,6 +35,17 @@ impl<K: Eq + Hash, V, S: BuildHasher, W> Model for OnceTable<K, V, S, W> {
     ghost view = { λ t. record { slots = t.entries.slots; pairs = t.numbers.entries } };
 
     ghost invariant = { λ t. AreLinked t.entries t.numbers.entries };
+}
+
+// Written out: a derive is proved anew in each crate that hands one to a generic function.
+impl<K: Eq + Hash + Drop, V: Drop, S: BuildHasher + Drop, W: Drop> Drop for OnceTable<K, V, S, W> {
+    fn drop(self) {
+        let OnceTable {
+            entries: _,
+            numbers: _,
+            alloc: _,
+        } = self;
+    }
 }
 
 impl<K: Eq + Hash + Drop, V: Drop, S: BuildHasher + Drop, W: Drop> OnceTable<K, V, S, W> {

@@ -9,7 +9,6 @@ use std::alloc::Global;
 use std::marker::Model;
 
 // One permit that is handed from caller to caller: a semaphore of one, each of whose acquires asks for one.
-#[derive(Drop)]
 pub(crate) struct Permit<W> {
     sem: SemCore<W>,
 }
@@ -25,6 +24,13 @@ impl<W> Model for Permit<W> {
     ghost view = { λ p. p.sem };
 
     ghost invariant = { λ p. IsPermit p.sem };
+}
+
+// Written out: a derive is proved anew in each crate that hands one to a generic function.
+impl<W: Drop> Drop for Permit<W> {
+    fn drop(self) {
+        let Permit { sem: _ } = self;
+    }
 }
 
 impl<W: Drop> Permit<W> {

@@ -22,7 +22,6 @@ use std::marker::Model;
 /// A wait is known to the pool from the poll that is pending to the one that is not. Room for its waker is reserved when it
 /// begins to wait, so that putting back, cancelling and draining take no memory. No call looks at all resources or leases;
 /// a drain, and the call after which it is over, pass over those that wait once.
-#[derive(Drop)]
 pub struct PoolCore<R, W> {
     shelf: Shelf<R>,
     places: Places<W>,
@@ -41,6 +40,17 @@ impl<R, W> Model for PoolCore<R, W> {
     ghost view = { λ p. pool_of p.shelf p.places p.gate };
 
     ghost invariant = { λ p. ArePool p.shelf p.places p.gate };
+}
+
+// Written out: a derive is proved anew in each crate that hands one to a generic function.
+impl<R: Drop, W: Drop> Drop for PoolCore<R, W> {
+    fn drop(self) {
+        let PoolCore {
+            shelf: _,
+            places: _,
+            gate: _,
+        } = self;
+    }
 }
 
 impl<R, W: Drop> PoolCore<R, W> {

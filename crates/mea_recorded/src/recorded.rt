@@ -21,7 +21,6 @@ use std::marker::Model;
 ///
 /// Its memory grows with its entries. For each future and permit that lives there is a place for the entry of
 /// its end, so that the end takes no memory.
-#[derive(Drop)]
 pub struct Recorded {
     hall: SemHall,
     events: Vec<SemEvent>,
@@ -40,6 +39,18 @@ impl Model for Recorded {
     ghost view = { λ r. record { events = r.events.items; replies = r.replies.replies } };
 
     ghost invariant = { λ r. IsKeptHistory r.hall (record { events = r.events.items; replies = r.replies.replies }) r.living (vec_capacity r.events - vec_len r.events) r.replies };
+}
+
+// Written out: a derive is proved anew in each crate that hands one to a generic function.
+impl Drop for Recorded {
+    fn drop(self) {
+        let Recorded {
+            hall: _,
+            events: _,
+            replies: _,
+            living: _,
+        } = self;
+    }
 }
 
 impl Recorded {

@@ -22,7 +22,6 @@ use std::marker::Model;
 ///
 /// Each semaphore is a core of its own; a future keeps its acquire. Each event costs a few look-ups by name
 /// and the waiters that it pays, however many wait.
-#[derive(Drop)]
 pub struct SemFamily {
     pub(crate) alloc: Global,
     pub(crate) semaphores: HashMap<u64, SemaphoreEntry, NameHasher>,
@@ -48,6 +47,20 @@ impl Model for SemFamily {
     ghost view = { λ a. record { hall = hall_of (store_of (with_ended a.semaphores.entries a.ended.items) a.futures.entries a.permits.entries) a.next; next = a.next } };
 
     ghost invariant = { λ a. AreKept (store_of (with_ended a.semaphores.entries a.ended.items) a.futures.entries a.permits.entries) a.next };
+}
+
+// Written out: a derive is proved anew in each crate that hands one to a generic function.
+impl Drop for SemFamily {
+    fn drop(self) {
+        let SemFamily {
+            alloc: _,
+            semaphores: _,
+            ended: _,
+            futures: _,
+            permits: _,
+            next: _,
+        } = self;
+    }
 }
 
 impl SemFamily {

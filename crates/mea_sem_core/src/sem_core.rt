@@ -17,7 +17,6 @@ use std::sync::ledger::{Blank, Ledger};
 /// polled ready or ended. Room for the waker of each waiter is reserved when it begins to wait, so that
 /// permits that come in take no memory. It ports `mea`'s internal `Semaphore`, as pure state: its calls
 /// make wakers ready and call none.
-#[derive(Drop)]
 pub struct SemCore<W> {
     free: usize,
     live: usize,
@@ -56,6 +55,20 @@ impl<W> Model for SemCore<W> {
       idle : 0 < s.free → s.waiters.order ≡ [];
       closing : CutsWhereClosed s.closed (queue_of s.waiters) (cut_of s.waiters);
     } };
+}
+
+// Written out: a derive is proved anew in each crate that hands one to a generic function.
+impl<W: Drop> Drop for SemCore<W> {
+    fn drop(self) {
+        let SemCore {
+            free: _,
+            live: _,
+            paid: _,
+            closed: _,
+            waiters: _,
+            outbox: _,
+        } = self;
+    }
 }
 
 // What a first poll comes to.

@@ -11,7 +11,6 @@ use std::marker::Model;
 /// A count that waits for its end: at 0 it wakes everyone who is registered, and stays.
 ///
 /// It ports `mea`'s internal `CountdownState`.
-#[derive(Drop)]
 pub struct Countdown<W> {
     count: u32,
     waiting: WaitSet<W>,
@@ -34,6 +33,17 @@ impl<W> Model for Countdown<W> {
       first : 0 < c.count → c.waiting.drains ≡ 0;
       over : c.count ≡ 0 → c.waiting.wakers ≡ [];
     } };
+}
+
+// Written out: a derive is proved anew in each crate that hands one to a generic function.
+impl<W: Drop> Drop for Countdown<W> {
+    fn drop(self) {
+        let Countdown {
+            count: _,
+            waiting: _,
+            outbox: _,
+        } = self;
+    }
 }
 
 impl<W: Drop> Countdown<W> {

@@ -11,7 +11,6 @@ use std::marker::Model;
 /// waits stay until the next drain.
 ///
 /// It ports `mea`'s internal `WaitSet`, whose numbers come again after a drain.
-#[derive(Drop)]
 pub struct WaitSet<W> {
     wakers: VecDeque<W>,
     drains: u128,
@@ -25,6 +24,16 @@ impl<W> Model for WaitSet<W> {
     ghost coded = { registered_code W.code };
 
     ghost view = { λ s. record { wakers = s.wakers.items; drains = s.drains } };
+}
+
+// Written out: a derive is proved anew in each crate that hands one to a generic function.
+impl<W: Drop> Drop for WaitSet<W> {
+    fn drop(self) {
+        let WaitSet {
+            wakers: _,
+            drains: _,
+        } = self;
+    }
 }
 
 impl<W: Drop> WaitSet<W> {

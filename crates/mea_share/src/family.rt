@@ -34,7 +34,6 @@ pub type ShareHall = FamilyHall<ShareFamily, ShareModel>;
 ///
 /// Each admission is a core of its own; a future keeps its acquire. Each event costs a look-up by name, one by key, and what
 /// its core costs: a logarithm of its keys where one is admitted.
-#[derive(Drop)]
 pub struct ShareFamily {
     admissions: SharePart,
 }
@@ -48,6 +47,13 @@ impl Model for ShareFamily {
     ghost coded = { part_code hall_code };
 
     ghost view = { λ f. f.admissions };
+}
+
+// Written out: a derive is proved anew in each crate that hands one to a generic function.
+impl Drop for ShareFamily {
+    fn drop(self) {
+        let ShareFamily { admissions: _ } = self;
+    }
 }
 
 impl ShareFamily {

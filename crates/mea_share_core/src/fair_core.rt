@@ -17,7 +17,6 @@ use std::marker::Model;
 /// Room for a waker and an admission is made when an acquire begins to wait, so that permits that come back take no
 /// memory. An admission costs a logarithm of the keys that hold, wait or have a weight. It ports `mea`'s `FairShare` as
 /// pure state; weights are this project's own.
-#[derive(Drop)]
 pub struct FairCore<K: Eq + Hash, W, S: BuildHasher> {
     free: usize,
     waiting: usize,
@@ -44,6 +43,19 @@ impl<K: Eq + Hash, W, S: BuildHasher> Model for FairCore<K, W, S> {
       settled : (f.free ≡ 0) ⊎ (f.waiting ≡ 0);
       numbered : AreNumbered K.eq f.next f.groups;
     } };
+}
+
+// Written out: a derive is proved anew in each crate that hands one to a generic function.
+impl<K: Eq + Hash + Drop, W: Drop, S: BuildHasher + Drop> Drop for FairCore<K, W, S> {
+    fn drop(self) {
+        let FairCore {
+            free: _,
+            waiting: _,
+            next: _,
+            groups: _,
+            outbox: _,
+        } = self;
+    }
 }
 
 impl<K: Eq + Hash + Drop, W: Drop> FairCore<K, W, BuildHasherDefault<FoldHasher>> {

@@ -20,7 +20,6 @@ use std::marker::Model;
 ///
 /// A group has a place, where it is changed; a group of which nothing is left goes, and the last takes its place. The
 /// tournament is played again only where a group's rank may have changed.
-#[derive(Drop)]
 pub struct Groups<K: Eq + Hash, W, S: BuildHasher> {
     map: IndexMap<SharedKey<K>, ShareGroup<W>, S>,
     tournament: Tournament,
@@ -42,6 +41,17 @@ impl<K: Eq + Hash, W, S: BuildHasher> Model for Groups<K, W, S> {
       ranked : AreRanked g.map.entries g.tournament;
       room : length g.map.entries ≤ length g.tournament;
     } };
+}
+
+// Written out: a derive is proved anew in each crate that hands one to a generic function.
+impl<K: Eq + Hash + Drop, W: Drop, S: BuildHasher + Drop> Drop for Groups<K, W, S> {
+    fn drop(self) {
+        let Groups {
+            map: _,
+            tournament: _,
+            alloc: _,
+        } = self;
+    }
 }
 
 // The rank of the group at a place, if someone waits there.

@@ -19,9 +19,15 @@ use std::sync::{Arc, Mutex, Wait};
 /// Each call takes the lock round the pool's core, makes its step there, leaves the lock, and wakes those whom the step has
 /// granted a lease or told the end. A resource moves into its lease and back, so a lease may be held between polls and sent to
 /// another thread; a large resource is best boxed.
-#[derive(Drop)]
 pub struct Pool<T, W> {
     pub(crate) core: Mutex<PoolCore<T, W>>,
+}
+
+// Written out: a derive is proved anew in each crate that hands one to a generic function.
+impl<T: Drop, W: Drop> Drop for Pool<T, W> {
+    fn drop(self) {
+        let Pool { core: _ } = self;
+    }
 }
 
 impl<T: Drop, W: Wake> Pool<T, W> {

@@ -18,9 +18,15 @@ pub use waits::{
 ///
 /// A wait takes the guard of a mutex over, gives the lock back at its first poll, and is ready with a guard
 /// once it was notified and has the lock again. It ports `mea::condvar::Condvar`.
-#[derive(Drop)]
 pub struct Condvar<W> {
     core: Mutex<CondvarCore<W>>,
+}
+
+// Written out: a derive is proved anew in each crate that hands one to a generic function.
+impl<W: Drop> Drop for Condvar<W> {
+    fn drop(self) {
+        let Condvar { core: _ } = self;
+    }
 }
 
 impl<W: Wake> Condvar<W> {

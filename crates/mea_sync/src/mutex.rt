@@ -17,9 +17,15 @@ pub(crate) use steps::MutexState;
 ///
 /// The value moves into the guard and back, so that a guard may be held between polls and sent to another
 /// thread; a large value is best boxed. It ports `mea::mutex::Mutex`.
-#[derive(Drop)]
 pub struct Mutex<T, W> {
     pub(crate) core: sync::Mutex<MutexState<T, W>>,
+}
+
+// Written out: a derive is proved anew in each crate that hands one to a generic function.
+impl<T: Drop, W: Drop> Drop for Mutex<T, W> {
+    fn drop(self) {
+        let Mutex { core: _ } = self;
+    }
 }
 
 impl<T: Drop, W: Wake> Mutex<T, W> {

@@ -28,9 +28,15 @@ const MAX_READERS: usize = 9223372036854775807;
 /// The value moves into the guard of a write and back; those who read share it, for which the first to read
 /// after a write takes memory. So each guard may be held between polls and sent to another thread. It ports
 /// `mea::rwlock::RwLock`.
-#[derive(Drop)]
 pub struct RwLock<T, W> {
     core: Mutex<RwLockState<T, W>>,
+}
+
+// Written out: a derive is proved anew in each crate that hands one to a generic function.
+impl<T: Drop, W: Drop> Drop for RwLock<T, W> {
+    fn drop(self) {
+        let RwLock { core: _ } = self;
+    }
 }
 
 impl<T: Drop, W: Wake> RwLock<T, W> {

@@ -29,11 +29,17 @@ pub struct Closed;
 /// Each call takes the lock round the semaphore's core, makes its step there, leaves the lock, and wakes
 /// those that the step has paid. It ports `mea::semaphore::Semaphore`; `close` and `is_closed` are this
 /// library's own.
-#[derive(Drop)]
 pub struct Semaphore<W> {
     // Which semaphore it is, for contracts: of two that were made, none shows that they have one name. It takes no bytes.
     name: Source,
     core: Mutex<SemCore<W>>,
+}
+
+// Written out: a derive is proved anew in each crate that hands one to a generic function.
+impl<W: Drop> Drop for Semaphore<W> {
+    fn drop(self) {
+        let Semaphore { name: _, core: _ } = self;
+    }
 }
 
 impl<W: Wake> Semaphore<W> {

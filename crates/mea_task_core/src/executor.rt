@@ -25,7 +25,6 @@ const GREATEST_SIZE: usize = 1 << 60;
 ///
 /// In a turn a task plays its steps until it waits, yields, fails or is finished. It waits with a future of the hall, whose
 /// waker is the task's number: whom an event wakes goes to the end of the run queue at once.
-#[derive(Drop)]
 pub struct Executor {
     pub(crate) hall: SemHall,
     // The events played so far, and so the number of the next.
@@ -55,6 +54,23 @@ impl Model for Executor {
     ghost view = { λ e. record { hall = e.hall.hall; events = e.events; semaphores = e.semaphores.items; tasks = e.tasks.items; queue = e.queue.tasks; running = e.running; polls = e.polls; added = e.added; allowance = e.allowance } };
 
     ghost invariant = { λ e. IsKept (record { hall = e.hall.hall; events = e.events; semaphores = e.semaphores.items; tasks = e.tasks.items; queue = e.queue.tasks; running = e.running; polls = e.polls; added = e.added; allowance = e.allowance }) e.hall e.queue.room };
+}
+
+// Written out: a derive is proved anew in each crate that hands one to a generic function.
+impl Drop for Executor {
+    fn drop(self) {
+        let Executor {
+            hall: _,
+            events: _,
+            semaphores: _,
+            tasks: _,
+            queue: _,
+            running: _,
+            polls: _,
+            added: _,
+            allowance: _,
+        } = self;
+    }
 }
 
 impl Executor {

@@ -5,9 +5,15 @@ use std::sync::{Mutex, Wait};
 
 /// A box that threads share. Each call swaps the content whole, in one step; none takes memory. It ports
 /// `mea::atomicbox::AtomicBox`.
-#[derive(Drop)]
 pub struct AtomicBox<T> {
     core: Mutex<BoxCore<T>>,
+}
+
+// Written out: a derive is proved anew in each crate that hands one to a generic function.
+impl<T: Drop> Drop for AtomicBox<T> {
+    fn drop(self) {
+        let AtomicBox { core: _ } = self;
+    }
 }
 
 impl<T: Drop> AtomicBox<T> {

@@ -3,9 +3,15 @@ use std::sync::{Mutex, Wait};
 
 /// A box that threads share, and that may be empty. Each call swaps the content whole, in one step; none takes memory.
 /// It ports `mea::atomicbox::AtomicOptionBox`.
-#[derive(Drop)]
 pub struct AtomicOptionBox<T> {
     core: Mutex<OptionBoxCore<T>>,
+}
+
+// Written out: a derive is proved anew in each crate that hands one to a generic function.
+impl<T: Drop> Drop for AtomicOptionBox<T> {
+    fn drop(self) {
+        let AtomicOptionBox { core: _ } = self;
+    }
 }
 
 impl<T: Drop> AtomicOptionBox<T> {

@@ -13,9 +13,15 @@ use std::sync::{Mutex, Wait};
 pub use waits::{CallClaim, CallClaiming, OnceClaim, OnceClaiming, OnceWait};
 
 /// A call that runs once, and that others wait for. It ports `mea::once::Once`.
-#[derive(Drop)]
 pub struct Once<W> {
     calls: Mutex<Calls<W>>,
+}
+
+// Written out: a derive is proved anew in each crate that hands one to a generic function.
+impl<W: Drop> Drop for Once<W> {
+    fn drop(self) {
+        let Once { calls: _ } = self;
+    }
 }
 
 /// The calls, and a latch for those who wait for one to complete.

@@ -19,11 +19,21 @@ pub use waits::{CellClaim, CellClaiming};
 ///
 /// The value stands in std's `OnceLock`, beside the core that tells whose turn it is: so a look takes no lock. It ports
 /// `mea::once::OnceCell`.
-#[derive(Drop)]
 pub struct OnceCell<T, W> {
     alloc: Global,
     core: Mutex<CellCore<(), W>>,
     value: OnceLock<T>,
+}
+
+// Written out: a derive is proved anew in each crate that hands one to a generic function.
+impl<T: Drop, W: Drop> Drop for OnceCell<T, W> {
+    fn drop(self) {
+        let OnceCell {
+            alloc: _,
+            core: _,
+            value: _,
+        } = self;
+    }
 }
 
 /// The future of `OnceCell::get_or_try_init`.

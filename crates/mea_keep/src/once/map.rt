@@ -17,11 +17,20 @@ type Core<K, V, S, W> = MapCore<K, Computed<V>, S, Option<W>>;
 
 /// A map whose values are computed once for each key, and stay. Each caller has a clone of the value. It ports
 /// `mea::once::OnceMap`.
-#[derive(Drop)]
 pub struct OnceMap<K: Eq + Hash, V, S: BuildHasher, W> {
     keyed: Keyed<Core<K, V, S, W>>,
     // How many times an entry has left; it changes while the lock is held alone.
     removals: AtomicU64,
+}
+
+// Written out: a derive is proved anew in each crate that hands one to a generic function.
+impl<K: Eq + Hash + Drop, V: Drop, S: BuildHasher + Drop, W: Drop> Drop for OnceMap<K, V, S, W> {
+    fn drop(self) {
+        let OnceMap {
+            keyed: _,
+            removals: _,
+        } = self;
+    }
 }
 
 /// A map with std's hasher, as `OnceMap::new` gives it. It has no secret seed: keys that strangers choose may collide, and ask

@@ -15,9 +15,15 @@ use std::marker::Model;
 use std::sync::{Arc, Mutex, Wait};
 
 // What the ends of a channel share.
-#[derive(Drop)]
 struct Shared<T, W> {
     core: Mutex<BroadcastCore<T, W>>,
+}
+
+// Written out: a derive is proved anew in each crate that hands one to a generic function.
+impl<T: Drop, W: Drop> Drop for Shared<T, W> {
+    fn drop(self) {
+        let Shared { core: _ } = self;
+    }
 }
 
 /// An end that sends. It must be ended. It ports `mea::broadcast::overflow::Sender`.
@@ -28,7 +34,6 @@ pub struct Sender<T, W> {
 /// An end that receives all that is sent while it keeps up. A contract sees of it how many messages it has passed. It has
 /// one place among those who wait, which each of its waits takes in turn, so however many are polled and ended before a
 /// message comes, one waker is kept. It ports `mea::broadcast::overflow::Receiver`.
-#[derive(Drop)]
 pub struct Receiver<T, W> {
     shared: Arc<Shared<T, W>>,
     cursor: Cursor,
@@ -41,6 +46,17 @@ impl<T, W> Model for Receiver<T, W> {
     ghost Value = { ℕ };
 
     ghost view = { λ r. r.cursor.position };
+}
+
+// Written out: a derive is proved anew in each crate that hands one to a generic function.
+impl<T: Drop, W: Drop> Drop for Receiver<T, W> {
+    fn drop(self) {
+        let Receiver {
+            shared: _,
+            cursor: _,
+            place: _,
+        } = self;
+    }
 }
 
 /// The future of `Receiver::recv`. It must be polled to its end, or ended; ended, its waker stays until the next

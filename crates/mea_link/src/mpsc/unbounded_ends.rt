@@ -11,9 +11,15 @@ use std::alloc::Global;
 use std::sync::{Arc, Mutex, Wait};
 
 // What the ends of a channel share.
-#[derive(Drop)]
 struct Shared<T, W> {
     core: Mutex<UnboundedCore<T, W>>,
+}
+
+// Written out: a derive is proved anew in each crate that hands one to a generic function.
+impl<T: Drop, W: Drop> Drop for Shared<T, W> {
+    fn drop(self) {
+        let Shared { core: _ } = self;
+    }
 }
 
 /// An end that sends. It must be ended. It ports `mea::mpsc::UnboundedSender`.
