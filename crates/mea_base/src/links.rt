@@ -118,7 +118,7 @@ pub fn insert_between<T>(nodes: &mut Slab<Node<T>>, prev: usize, next: usize, va
     key
 }
 
-/// Makes room for `n` more nodes, and makes the sentinel where there is none.
+/// Makes room for `n` more nodes, and makes the sentinel where there is none. The first block has room for those alone.
 pub fn reserve_nodes<T>(nodes: &mut Slab<Node<T>>, n: usize) -> Result<(), NoMemory>
     requires first_key { node_at nodes.old.slots 0 ≡ None → nodes.old.vacant_key ≡ 0 }
     ensures room { OnOk result (HasRoomFor nodes.new n) }
@@ -134,7 +134,7 @@ pub fn reserve_nodes<T>(nodes: &mut Slab<Node<T>>, n: usize) -> Result<(), NoMem
     let Some(whole) = n.checked_add(1) else {
         return Err(NoMemory);
     };
-    nodes.reserve(whole)?;
+    nodes.reserve_exact(whole)?;
     nodes.insert_reserved(Node {
         prev: SENTINEL,
         next: SENTINEL,

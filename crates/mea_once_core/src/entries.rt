@@ -1,4 +1,4 @@
-ghost use Rattle.std.specs.Prelude.{◌≡◌, ◌≢◌, ℕ, ◌<◌, ◌≤◌, ◌+◌, ◌-◌, ◌^◌, length, true, false, ◌⊎◌, IsSome, IsOk, IfSome, IfOk, IfErr, OnErr, None, slice_get};
+ghost use Rattle.std.specs.Prelude.{◌≡◌, ◌≢◌, ℕ, ◌<◌, ◌≤◌, ◌+◌, ◌-◌, ◌^◌, length, true, false, ◌⊎◌, IsSome, IsOk, IfSome, IfOk, IfErr, OnOk, OnErr, None, slice_get};
 ghost use Rattle.std.specs.HashMap as hash;
 ghost use Rattle.slab.specs.Slab as slab;
 ghost use Rattle.mea_once_core.specs.Permit.{MayPoll, MayEnd};
@@ -116,6 +116,21 @@ pub(crate) fn drop_unused<V: Drop, W: Drop>(entries: &mut Slab<Entry<V, W>>, num
     let _ = entries.try_remove(number);
 }
 
+// Makes room for one entry more; at first for no other, since many tables have one key.
+pub(crate) fn reserve_one<V, W>(entries: &mut Slab<Entry<V, W>>) -> Result<(), NoMemory>
+    ensures room { OnOk result (slab.HasRoomFor entries.new 1) }
+    ensures succeeds { slab.HasRoomFor entries.old 1 → IsOk result }
+    ensures rest_kept { entries.new ≡ record entries.old { capacity = entries.new.capacity } }
+    ensures capacity { entries.old.capacity ≤ entries.new.capacity }
+{
+    if entries.capacity() == 0 {
+        entries.reserve_exact(1)?;
+        return Ok(());
+    }
+    entries.reserve(1)?;
+    Ok(())
+}
+
 // A new entry for a key that the table has not.
 pub(crate) fn make<K: Eq + Hash + Drop, V: Drop, S: BuildHasher, W: Drop>(
     entries: &mut Slab<Entry<V, W>>,
@@ -133,7 +148,7 @@ pub(crate) fn make<K: Eq + Hash + Drop, V: Drop, S: BuildHasher, W: Drop>(
     ensures err { IfErr result (λ e. (e.0 ≡ key) × SameEntries entries.old.slots entries.new.slots × SameNumbers K.eq numbers.old.entries numbers.new.entries) }
     ensures succeeds { slab.HasRoomFor entries.old 1 → 1 ≤ hash.spare numbers.old → IsOk result }
 {
-    match entries.reserve(1) {
+    match reserve_one(entries) {
         Ok(()) => {}
         Err(_) => return Err(refused(key, cell)),
     }

@@ -1,6 +1,6 @@
 use crate::cell_core::CellCore;
 use crate::entries::{
-    drop_unused, end_init, join, make, move_wakes, poll_init, put, unjoin, unlist,
+    drop_unused, end_init, join, make, move_wakes, poll_init, put, reserve_one, unjoin, unlist,
 };
 use crate::entry::Entry;
 use crate::init::Init;
@@ -208,7 +208,7 @@ impl<K: Eq + Hash + Drop, V: Drop, S: BuildHasher + Drop, W: Drop> OnceTable<K, 
         ensures ok { OnOk result (Inserts K.eq self.old self.new key (full_cell value)) }
         ensures err { IfErr result (λ e. (e.0 ≡ key) × (e.1 ≡ value) × IsSame K.eq self.old self.new) }
     {
-        if self.entries.reserve(1).is_err() {
+        if reserve_one(&mut self.entries).is_err() {
             return Err((key, value, NoMemory));
         }
         if self.numbers.reserve(1).is_err() {
