@@ -233,9 +233,6 @@ module _ {old : Part Bounded} {i : ℕ} (s : BoundedSite old i) where
   pub sender_there : (k : ℕ) → is_sender old.hall.mail k ≡ true → IsSome (get s.ss k)
   sender_there k is = sender_is s.cs s.ss s.rs s.xs s.next s.view k (get s.ss k) refl ∙ is
 
-  pub send_there : (f : ℕ) → is_send old.hall f ≡ true → IsSome (get s.xs f)
-  send_there f is = send_is s.cs s.ss s.rs s.xs s.next s.view f (get s.xs f) refl ∙ is
-
   pub receiver_there : (r : ℕ) → is_receiver old.hall.mail r true ≡ true → IsSome (get s.rs r)
   receiver_there r is = mail.receiver_there letters r true (ap (λ (p : Part Bounded). is_receiver p.hall.mail r true) s.view ∙ is)
 

@@ -23,7 +23,7 @@ use Rattle.mea_by_name.proofs.Cases.{found_is, if_true, if_false}
 use Rattle.mea_by_name.proofs.Own.{Stays, Comes, Goes, seen-at, seen-back, seen-empty, seen-insert, seen-remove, own-at, own-put, own-gone, own-empty, own-had, insert_same, put_gone, gone_none, len-some, seen-none_back, seen-some_back}
 use Rattle.mea_by_name.specs.NamedQueue.{registering}
 use Rattle.mea_cores_by_name.specs.SetLinked.{SetLinked, set_names}
-use Rattle.mea_cores_by_name.proofs.Sets.{registered_names, registered_links, drained_links, begun_links, gone_links, length-names, linked_later}
+use Rattle.mea_cores_by_name.proofs.Sets.{registered_names, registered_links, drained_links, begun_links, gone_links, length-set_names, linked_later}
 use Rattle.mea_sets.specs.WaitSet.{has_given, with_waker, slot_after}
 use Rattle.mea_broadcast_core.specs.Broadcast.{IsFresh, after_send, without_sender, woken}
 use Rattle.mea_broadcast_core.specs.Receives as cores
@@ -188,7 +188,7 @@ module _ {old : Part Broadcasts} {i : ℕ} (s : Site old i) where
 
   -- a channel that is over keeps nobody
   none_kept_by : (e : BroadcastEntry) → (e.core.senders ≡ 0 → set_names e.core.waiting ≡ []) → is_over (broadcast_seen e) ≡ true → kept_by e.core ≡ 0
-  none_kept_by e silent over = sym (length-names e.core.waiting.wakers) ∙ ap (λ q. length q) (silent (over_none (broadcast_seen e) over).0)
+  none_kept_by e silent over = sym (length-set_names e.core.waiting.wakers) ∙ ap (λ q. length q) (silent (over_none (broadcast_seen e) over).0)
 
   -- ---- at a channel that is there
   module _ (o : ℕ) (e : BroadcastEntry) (there : get s.es o ≡ Some e) where

@@ -10,7 +10,7 @@ use Rattle.mea_by_name.specs.ByName.{Names, seen}
 use Rattle.mea_by_name.specs.NamedQueue.{wakers}
 use Rattle.mea_by_name.proofs.Own.{total-seen}
 use Rattle.mea_cores_by_name.specs.SetLinked.{set_names}
-use Rattle.mea_cores_by_name.proofs.Sets.{length-names, wakers-names}
+use Rattle.mea_cores_by_name.proofs.Sets.{length-set_names, wakers-names}
 use Rattle.mea_broadcast_core.specs.Broadcast.{oldest, after_send, without_sender, woken}
 use Rattle.mea_broadcast_core.specs.Receives as cores
 use Rattle.mea_broadcast_core.specs.Receives.{Found, found, found_at}
@@ -67,7 +67,7 @@ kept_in es = total (λ o (e : BroadcastEntry). kept_by e.core) es
 
 pub registered_is : (es : Names BroadcastEntry) → total (λ o (c : model.Broadcast). length c.waiting) (seen broadcast_seen es) ≡ kept_in es
 registered_is es = total-seen broadcast_seen (λ (c : model.Broadcast). length c.waiting) es
-    ∙ total-same (λ o (e : BroadcastEntry). length (set_names e.core.waiting)) (λ o (e : BroadcastEntry). kept_by e.core) es (λ o e is. length-names e.core.waiting.wakers)
+    ∙ total-same (λ o (e : BroadcastEntry). length (set_names e.core.waiting)) (λ o (e : BroadcastEntry). kept_by e.core) es (λ o e is. length-set_names e.core.waiting.wakers)
 
 -- ---- the ring's size
 doubled : (d k : ℕ) → d < k → (2 ^ (d + 1) ≡ 2 * 2 ^ d) × (2 ^ (d + 1) ≤ 2 ^ k)

@@ -189,9 +189,9 @@ pub gone_links : (s : Registered NamedWaker) (slots : Names (Option Place)) (n f
 gone_links s slots n f linked = record { each = λ g slot here. linked.each g slot (removed_there slots f g slot here); below = linked.below }
 
 -- ---- who waits, by name
-pub length-names : (ks : List NamedWaker) → length (names_of ks) ≡ length ks
-length-names [] = refl
-length-names (k ∷ ks) = omega (arith, length-names ks)
+pub length-set_names : (ks : List NamedWaker) → length (names_of ks) ≡ length ks
+length-set_names [] = refl
+length-set_names (k ∷ ks) = omega (arith, length-set_names ks)
 
 pub wakers-names : (ks : List NamedWaker) → wakers (names_of ks) ≡ map (λ (k : NamedWaker). k.waker) ks
 wakers-names [] = refl

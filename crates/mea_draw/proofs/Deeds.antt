@@ -27,7 +27,7 @@ use Rattle.mea_lock_model.specs.CondActions.{polled_on}
 use Rattle.mea_lock_model.specs.Meaning as lock_meaning
 use Rattle.mea_lock_model.specs.Meaning.{OnLocks, OnCondvars}
 use Rattle.mea_lock_model.specs.LockFamily as lock
-use Rattle.mea_chan_model.specs.ChanHall.{Unbounded, Oneshots, ReceiverOf, ReceiverOfBounded}
+use Rattle.mea_chan_model.specs.ChanHall.{Unbounded, Oneshots, ReceiverOf}
 use Rattle.mea_chan_model.specs.MailboxActions as mailboxes
 use Rattle.mea_chan_model.specs.BoundedActions.{bounded_polled}
 use Rattle.mea_chan_model.specs.BroadcastActions.{broadcast_polled}

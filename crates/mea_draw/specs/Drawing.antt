@@ -1,4 +1,4 @@
--- the drawing of scripts on the halls of all families
+-- the drawing of scripts on all families
 use Rattle.std.specs.Prelude.{ℕ, List, [], ◌≡◌}
 use Rattle.mea_events.specs.declared.event.Event.{Event}
 use Rattle.mea_hall.specs.World.{World, empty_world, cause_of, step}

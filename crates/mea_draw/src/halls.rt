@@ -8,7 +8,7 @@ use mea_hall::Hall;
 use mea_marks::Playing;
 use std::alloc::Global;
 
-/// The halls of all families, whose events are drawn.
+/// All families, whose events are drawn.
 #[derive(Drop)]
 pub struct Halls {
     hall: Hall,

@@ -24,7 +24,7 @@ fn drawings_are_faithful()
 {}
 
 /// All that the program does, with the words of its command line after its name, of which there are none. It reads a
-/// script, plays it on the halls of all families as `mea_play` does, and writes a picture of what it did. With any word it
+/// script, plays it on all families as `mea_play` does, and writes a picture of what it did. With any word it
 /// reads and writes nothing.
 ///
 /// It takes memory for the script, the picture and what the halls hold. A source or a sink that tells no bytes has the

@@ -1,7 +1,7 @@
 -- why an event is refused, and where it is not
 use Rattle.std.proofs.Common.{◌≡◌, ◌==◌, ℕ, Bool, true, false, inl, inr, Option, Some, None, refl, ap, sym, ◌∙◌, arith, if◌then◌else◌}
 use Rattle.std.proofs.lemmas.Bool.Decides.{nat_tests}
-use Rattle.mea_family.specs.Causes.{borrowed_by}
+use Rattle.mea_family.specs.Causes.{borrowed_by, unknown_unless}
 use Rattle.mea_family.specs.declared.stop.Stop.{Stop}
 use Rattle.mea_family.specs.declared.stop.Stop.TheVariants as stops
 use Rattle.mea_family.specs.Acts.{Refuses}
@@ -23,6 +23,10 @@ pub lacking : (cause : Option Stop) (free : Type 0) → cause ≡ None → (free
 lacking cause free none takes = inr (none, refl, takes)
 
 -- ---- where there is no cause
+-- what is known is not refused
+pub is_known : (b : Bool) → b ≡ true → unknown_unless b ≡ None
+is_known b is = ap unknown_unless is
+
 -- what nothing borrows is known
 pub borrowed_none : (known : Bool) (n : ℕ) → borrowed_by known n ≡ None → (known ≡ true) × (n ≡ 0)
 borrowed_none true n is = (refl, grind (arith, nat_tests))

@@ -66,6 +66,7 @@ embedding Chans = record { family = chans_family; hall = λ w. w.chans; with_hal
 embedding Shares = record { family = shares_family; hall = λ w. w.shares; with_hall = λ w h. record w { shares = h }; registered = share.registered }
 embedding Onces = record { family = onces_family; hall = λ w. w.onces; with_hall = λ w h. record w { onces = h }; registered = once.registered }
 
+-- the model of a family
 abbrev pub family : FamilyName → Family
 family k = (embedding k).family
 
@@ -119,6 +120,7 @@ pub record Outcome : Type 0 where
 abbrev pub outcome_in : World → (k : FamilyName) → families.Outcome (family k).Hall → Outcome
 outcome_in w k o = record { world = with_hall w k o.hall; reply = (o.reply, o.wakes) }
 
+-- event number i, which goes to this family
 abbrev pub step_of : World → ℕ → Addressed → Outcome
 step_of w i a = outcome_in w a.name ((family a.name).step (hall w a.name) i a.event)
 

@@ -43,8 +43,7 @@ impl Model for Hall {
     } };
 }
 
-// Written out, so that a hall is taken apart here alone: for a derive it is in each crate that hands one to a generic
-// function, down to the last list of its cores.
+// Written out: a derive is proved anew in each crate that hands one to a generic function.
 impl Drop for Hall {
     fn drop(self) {
         let Hall {

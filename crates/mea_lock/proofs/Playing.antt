@@ -15,11 +15,6 @@ use Rattle.mea_lock_model.specs.LockHall.{LockHall, Mutexes, RwLocks, empty_hall
 use Rattle.mea_lock_model.specs.Meaning.{Meaning, OnLocks, OnCondvars, meaning_of, step, step_by}
 use Rattle.mea_lock.specs.Halls.{hall_of, AreBelow, PlaysOne, PlaysBy}
 
--- both halves of a conjunction hold
-pub both_true : (a b : Bool) → (a && b) ≡ true → (a ≡ true) × (b ≡ true)
-both_true true b is = (refl, is)
-both_true false b is = absurd (cc)
-
 -- ---- what an event leaves
 pub none_registered : all_registered empty_hall ≡ 0
 none_registered = omega (arith, total-empty (λ o (r : Lock). length (waiting_at r)), total-empty (λ o (q : Waiting). length q))

@@ -1,6 +1,6 @@
 -- what each event keeps of every part of the hall
 use Rattle.std.proofs.Common.{◌≡◌, ℕ, ◌+◌, ◌≤◌, ◌==◌, ◌&&◌, ◌++◌, Bool, true, false, cond, List, [], Option, Some, None, if◌then◌else◌, refl, ap}
-use Rattle.std.proofs.lemmas.Bool.{eq-eqb}
+use Rattle.std.proofs.lemmas.Bool.{eq-eqb, and_parts}
 use Rattle.std.proofs.lemmas.List.Elements.{Contains-append_left, Contains-append_right}
 use Rattle.std.specs.FinMap.{get}
 use Rattle.mea_family.specs.Causes.{unknown_unless}
@@ -19,7 +19,7 @@ use Rattle.mea_lock_model.specs.CondActions.{CondAction, Make, Wait, Poll, One, 
 use Rattle.mea_lock_model.specs.LockHall.{LockHall, Mutexes, RwLocks}
 use Rattle.mea_lock_model.specs.Meaning.{Meaning, OnLocks, OnCondvars, cause_by, step_by}
 use Rattle.mea_lock_model.proofs.Acting.{goes}
-use Rattle.mea_family.proofs.Refusals.{not_borrowed}
+use Rattle.mea_family.proofs.Refusals.{is_known, not_borrowed}
 use Rattle.mea_lock_model.proofs.CondActing as acting
 use Rattle.mea_lock_model.proofs.CondActing.{put_stands, stands_notified, stands_ended, stands_dropped}
 use Rattle.mea_lock_model.proofs.Changes.{Low, LocksGo, locks_rest, locks_go, locks_among, CondLow, CondvarsGo, condvars_rest, condvars_go, condvars_among}
@@ -53,21 +53,14 @@ pub record HallGoes (d : Meaning) (h h' : LockHall) (i : ℕ) (ws : List ℕ) : 
   pub rw_locks : LocksGo (QuietRw d) h.rw_locks h'.rw_locks i ws
   pub condvars : CondvarsGo (QuietWait d) h.condvars h'.condvars i ws
 
-both_true : (a b : Bool) → (a && b) ≡ true → (a ≡ true) × (b ≡ true)
-both_true true b is = (refl, is)
-both_true false b is = absurd (cc)
-
 -- what is known of a wait and of the future at its mutex
 pub both_known : (a b : Bool) → unknown_unless (a && b) ≡ None → (a ≡ true) × (b ≡ true)
-both_known a b is = both_true a b (known (a && b) is)
+both_known a b is = and_parts a b (known (a && b) is)
 
 -- what a line of a lock does is allowed, and not done to the future of a wait
 pub of_lock : (b : Bool) (o : Option Stop) → (if b then Some stops.Unknown else o) ≡ None → (b ≡ false) × (o ≡ None)
 of_lock true o is = absurd (cc)
 of_lock false o is = (refl, is)
-
-is_known : (b : Bool) → b ≡ true → unknown_unless b ≡ None
-is_known b is = ap unknown_unless is
 
 module _ (h : LockHall) (n i : ℕ) (lows : Lows h n) (later : n ≤ i) where
   mutexes_rest : (d : Meaning) (ws : List ℕ) → LocksGo (QuietMutex d) h.mutexes h.mutexes i ws

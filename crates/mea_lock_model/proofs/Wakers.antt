@@ -3,7 +3,7 @@ use Rattle.std.proofs.Common.{◌≡◌, ℕ, ◌<◌, ◌≤◌, ◌==◌, ◌&
 use Rattle.std.specs.Option.{IsSome}
 use Rattle.std.specs.List.{Contains}
 use Rattle.std.specs.FinMap.{get, insert, empty}
-use Rattle.std.proofs.lemmas.Bool.{eqb-true, eq-eqb, ne_eqb, and_from, and_left, and_right}
+use Rattle.std.proofs.lemmas.Bool.{eqb-true, eq-eqb, ne_eqb, and_from, and_left, and_right, and_parts}
 use Rattle.std.proofs.lemmas.Option.{cond_some}
 use Rattle.mea_family.specs.declared.answer.Answer.TheVariants as answers
 use Rattle.mea_family.specs.Family.{Outcome, IsRun, Starts, Goes, RunOf, KeepsWakers, NamesFutures, LosesNoWake, is_pending}
@@ -241,10 +241,6 @@ module _ (h : LockHall) (f : ℕ) where
   quiet_future lives (OnLocks RwLocks a) allowed quiet lasts = tt
   quiet_future lives (OnCondvars a) allowed quiet lasts = (quiet, lasts)
 
-both_of : (a b : Bool) → (a && b) ≡ true → (a ≡ true) × (b ≡ true)
-both_of true b is = (refl, is)
-both_of false b is = absurd (cc)
-
 -- ---- the locks of one kind keep who is neither polled nor ended
 module _ (quiet : ℕ → Type 0) (h h' : Locks) (i : ℕ) (ws : List ℕ) (go : LocksGo quiet h h' i ws) (f : ℕ) where
   same_sort : (condvar : Bool) → quiet f → is_waiting_for condvar (get h.futures f) ≡ true → is_waiting_for condvar (get h'.futures f) ≡ true
@@ -287,7 +283,7 @@ module _ (h : LockHall) (n i : ℕ) (lows : Lows h n) (later : n ≤ i) (d : Mea
   stays (Of Mutexes) lives quiet lasts = same_sort _ h.mutexes after.mutexes i ws all.mutexes f false (quiet_mutex h f lives d allowed quiet lasts) lives
   stays (Of RwLocks) lives quiet lasts = same_sort _ h.rw_locks after.rw_locks i ws all.rw_locks f false (quiet_rw h f d quiet lasts) lives
   stays Waits lives quiet lasts =
-      let both = both_of (is_wait h.condvars f) (is_condvar_future h.mutexes f) lives in
+      let both = and_parts (is_wait h.condvars f) (is_condvar_future h.mutexes f) lives in
       let wait = value_in (get h.condvars.waits f) both.0 in
       let still = wait_stays (quiet_wait h f d quiet lasts) wait.0 wait.1 in
       and_from _ _ (is_there (get after.condvars.waits f) still.0 still.1) (same_sort _ h.mutexes after.mutexes i ws all.mutexes f true (quiet_future h f both.1 d allowed quiet lasts) both.1)
@@ -296,7 +292,7 @@ module _ (h : LockHall) (n i : ℕ) (lows : Lows h n) (later : n ≤ i) (d : Mea
   kept w (Of Mutexes) lives is quiet lasts = all.mutexes.kept f w (quiet_mutex h f lives d allowed quiet lasts) is
   kept w (Of RwLocks) lives is quiet lasts = all.rw_locks.kept f w (quiet_rw h f d quiet lasts) is
   kept w Waits lives is quiet lasts =
-      let both = both_of (is_wait h.condvars f) (is_condvar_future h.mutexes f) lives in
+      let both = and_parts (is_wait h.condvars f) (is_condvar_future h.mutexes f) lives in
       let wait = value_in (get h.condvars.waits f) both.0 in
       let silent = quiet_wait h f d quiet lasts in
       let still = wait_stays silent wait.0 wait.1 in
@@ -323,7 +319,7 @@ module _ (h : LockHall) (n i : ℕ) (lows : Lows h n) (later : n ≤ i) (d : Mea
   made (Of Mutexes) lives = was_of_sort _ h.mutexes after.mutexes i ws all.mutexes f false lives
   made (Of RwLocks) lives = was_of_sort _ h.rw_locks after.rw_locks i ws all.rw_locks f false lives
   made Waits lives =
-      let both = both_of (is_wait after.condvars f) (is_condvar_future after.mutexes f) lives in
+      let both = and_parts (is_wait after.condvars f) (is_condvar_future after.mutexes f) lives in
       let wait = value_in (get after.condvars.waits f) both.0 in
       elim (all.condvars.made f (key_of wait.0) (seen-at key_of after.condvars.waits f wait.0 wait.1)) [
         | inr new ↦ inr new
@@ -403,7 +399,7 @@ name_below : (h : LockHall) (n : ℕ) → Lows h n → (f : ℕ) (s : Sort) → 
 name_below h n lows f (Of Mutexes) lives = let there = value_in (get h.mutexes.futures f) (lives_there false (get h.mutexes.futures f) lives) in (lows.mutexes.below.at f there.0 there.1).0
 name_below h n lows f (Of RwLocks) lives = let there = value_in (get h.rw_locks.futures f) (lives_there false (get h.rw_locks.futures f) lives) in (lows.rw_locks.below.at f there.0 there.1).0
 name_below h n lows f Waits lives =
-    let there = value_in (get h.condvars.waits f) (both_of (is_wait h.condvars f) (is_condvar_future h.mutexes f) lives).0 in
+    let there = value_in (get h.condvars.waits f) (and_parts (is_wait h.condvars f) (is_condvar_future h.mutexes f) lives).0 in
     (lows.condvars.below.at f (key_of there.0) (seen-at key_of h.condvars.waits f there.0 there.1)).0
 
 -- a hall with nothing

@@ -2,7 +2,7 @@
 use Rattle.std.proofs.Common.{◌≡◌, ℕ, ◌==◌, ◌&&◌, ◌||◌, ◌++◌, Bool, true, false, List, [], ◌∷◌, map, Option, Some, None, refl, ap, sym, ◌∙◌, if◌then◌else◌}
 use Rattle.std.specs.List.{list_any}
 use Rattle.std.specs.Option.{option_map}
-use Rattle.std.proofs.lemmas.Bool.{eqb-true, eq-eqb}
+use Rattle.std.proofs.lemmas.Bool.{eqb-true, eq-eqb, and_parts}
 use Rattle.mea_family.specs.declared.answer.Answer.{Answer}
 use Rattle.mea_marks.specs.declared.deed.Deed.{Deed}
 use Rattle.mea_marks.specs.declared.deed.Deed.TheVariants.{Makes, Begins, Copies, Polls, Ends, Other}
@@ -18,16 +18,11 @@ use Rattle.mea_marks.specs.Sorts.{code_of, is_lasting}
 
 -- ---- things that are one
 
-both : (a b : Bool) → (a && b) ≡ true → (a ≡ true) × (b ≡ true)
-both true true h = (refl, refl)
-both true false h = absurd (cc)
-both false b h = absurd (cc)
-
 same_codes : (a b : Thing) → same a b ≡ true → code_of a.sort ≡ code_of b.sort
-same_codes a b h = eqb-true (code_of a.sort) (code_of b.sort) ((both (code_of a.sort == code_of b.sort) (a.name == b.name) h).0)
+same_codes a b h = eqb-true (code_of a.sort) (code_of b.sort) ((and_parts (code_of a.sort == code_of b.sort) (a.name == b.name) h).0)
 
 same_names : (a b : Thing) → same a b ≡ true → a.name ≡ b.name
-same_names a b h = eqb-true a.name b.name ((both (code_of a.sort == code_of b.sort) (a.name == b.name) h).1)
+same_names a b h = eqb-true a.name b.name ((and_parts (code_of a.sort == code_of b.sort) (a.name == b.name) h).1)
 
 -- the same of both, on either side
 pub same_left : (a b y : Thing) → same a b ≡ true → same a y ≡ same b y

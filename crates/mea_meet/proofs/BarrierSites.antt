@@ -25,7 +25,7 @@ use Rattle.mea_sets.specs.declared.place.Place.{Place}
 use Rattle.mea_sets.specs.Poll.{Poll, Ready, Pending}
 use Rattle.mea_sets.specs.WaitSet.{has_given, with_waker, slot_after}
 use Rattle.mea_cores_by_name.specs.SetLinked.{SetLinked, set_names}
-use Rattle.mea_cores_by_name.proofs.Sets.{registered_links, registered_names, drained_links, begun_links, gone_links, length-names, wakers-names, linked_later}
+use Rattle.mea_cores_by_name.proofs.Sets.{registered_links, registered_names, drained_links, begun_links, gone_links, length-set_names, wakers-names, linked_later}
 use Rattle.mea_meet_core.specs.Barrier as cores
 use Rattle.mea_meet_core.specs.Barrier.{is_open, led, joined, Polls, Arrives, Returns}
 use Rattle.mea_meet_core.specs.declared.barrier_fault.BarrierFault.{BarrierFault}
@@ -60,7 +60,7 @@ kept_in bs = total (λ b (e : BarrierEntry). length e.core.waiting.wakers) bs
 
 registered_is : (bs : Names BarrierEntry) → total (λ b (r : Barrier). length r.waiting) (seen barrier_seen bs) ≡ kept_in bs
 registered_is bs = total-seen barrier_seen (λ (r : Barrier). length r.waiting) bs
-    ∙ total-same (λ b (e : BarrierEntry). length (set_names e.core.waiting)) (λ b (e : BarrierEntry). length e.core.waiting.wakers) bs (λ b e is. length-names e.core.waiting.wakers)
+    ∙ total-same (λ b (e : BarrierEntry). length (set_names e.core.waiting)) (λ b (e : BarrierEntry). length e.core.waiting.wakers) bs (λ b e is. length-set_names e.core.waiting.wakers)
 
 -- a round that has begun is not past the one under way
 reached : (size round arrivals : ℕ) → 1 ≤ size → round * size ≤ arrivals → nat_le round (arrivals / size) ≡ true

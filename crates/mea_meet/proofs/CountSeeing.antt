@@ -10,7 +10,7 @@ use Rattle.mea_sets.specs.declared.place.Place.{Place}
 use Rattle.mea_sets.specs.WaitSet as sets
 use Rattle.mea_sets.specs.Countdown as cores
 use Rattle.mea_cores_by_name.specs.SetLinked.{set_names}
-use Rattle.mea_cores_by_name.proofs.Sets.{length-names, wakers-names}
+use Rattle.mea_cores_by_name.proofs.Sets.{length-set_names, wakers-names}
 use Rattle.mea_meet_model.specs.Count.{decreased, woken_by, with_waker}
 use Rattle.mea_meet_model.specs.Counts as model
 use Rattle.mea_meet_model.specs.Counts.{Point, End, OfSignal, OfMembers, woken_by_end}
@@ -96,4 +96,4 @@ kept_in ps = total (λ o (e : KeptPoint). kept_by e.point) ps
 pub registered_is : (ps : Names KeptPoint) → total (λ o (r : Point). length r.signal.waiting + length r.members.waiting) (seen point_seen ps) ≡ kept_in ps
 registered_is ps = total-seen point_seen (λ (r : Point). length r.signal.waiting + length r.members.waiting) ps
     ∙ total-same (λ o (e : KeptPoint). length (set_names e.point.signal.waiting) + length (set_names e.point.receivers.waiting)) (λ o (e : KeptPoint). kept_by e.point) ps
-    (λ o e is. omega (arith, length-names e.point.signal.waiting.wakers, length-names e.point.receivers.waiting.wakers))
+    (λ o e is. omega (arith, length-set_names e.point.signal.waiting.wakers, length-set_names e.point.receivers.waiting.wakers))

@@ -21,7 +21,7 @@ use Rattle.mea_sets.specs.WaitSet.{slot_after}
 use Rattle.mea_cores_by_name.specs.Linked.{names_in, Linked}
 use Rattle.mea_cores_by_name.specs.SetLinked.{SlotIs, SetLinked, names_of, set_names}
 use Rattle.mea_cores_by_name.proofs.Linking.{linked_gone}
-use Rattle.mea_cores_by_name.proofs.Sets.{registered_names, registered_links}
+use Rattle.mea_cores_by_name.proofs.Sets.{registered_names, registered_links, length-set_names}
 use Rattle.mea_once_core.specs.declared.cell_stage.CellStage.{CellStage}
 use Rattle.mea_once_core.specs.declared.cell_stage.CellStage.TheVariants.{New, Queued, Running, Done}
 use Rattle.mea_once_model.specs.declared.errand.Initialiser.{Initialiser}
@@ -305,10 +305,6 @@ module _ (once : Bool) (e : KeptCell) (f : ℕ) (x : FutureEntry) (s : Stands on
         alone = omega (arith, s.kept.tied.alone, count-over s.fs f (λ (x : FutureEntry). is_alone x.errand) z x s.there refl);
       }
 
-      length_names : (ks : List NamedWaker) → length (names_of ks) ≡ length ks
-      length_names [] = refl
-      length_names (v ∷ ks) = omega (arith, length_names ks)
-
       length_registering : (q : Waiting) → length (registering q f w) ≤ length q + 1
       length_registering [] = omega arith
       length_registering (v ∷ q) = elim (v.0 == f) as (λ b. length (cond b ((v.0, w) ∷ q) (v ∷ registering q f w)) ≤ length (v ∷ q) + 1) [ true ↦ omega arith | false ↦ omega (arith, length_registering q) ]
@@ -331,8 +327,8 @@ module _ (once : Bool) (e : KeptCell) (f : ℕ) (x : FutureEntry) (s : Stands on
             few = omega arith;
             low = links.below;
             fit =
-                let long : length c.waits.wakers ≡ length (registering (set_names e.cell.waits) f w) = sym (length_names c.waits.wakers) ∙ ap (λ (q : Waiting). length q) names in
-                omega (arith, quiet_length, long, length_registering (set_names e.cell.waits), length_names e.cell.waits.wakers);
+                let long : length c.waits.wakers ≡ length (registering (set_names e.cell.waits) f w) = sym (length-set_names c.waits.wakers) ∙ ap (λ (q : Waiting). length q) names in
+                omega (arith, quiet_length, long, length_registering (set_names e.cell.waits), length-set_names e.cell.waits.wakers);
           })
         where
           either : (b : Bool) (a o : Step) → o ≡ a → (if b then a else o) ≡ a

@@ -40,15 +40,12 @@ use Rattle.mea_once.specs.Lends.{StandsFor}
 use Rattle.mea_once.proofs.Causes.{borrowed_at}
 use Rattle.mea_once.proofs.OneCell.{begins, idle, new_tied}
 use Rattle.mea_cores_by_name.proofs.Waiters.{length-names}
+use Rattle.mea_cores_by_name.proofs.Sets.{length-set_names}
 
 abbrev Good : Bool → KeptCell → Names FutureEntry → Names ℕ → Type 0
 Good once e xs ys = AreKept once e xs
 
 -- ---- how many wakers are kept
-
-length-set : (ks : List NamedWaker) → length (names_of ks) ≡ length ks
-length-set [] = refl
-length-set (k ∷ ks) = omega (arith, length-set ks)
 
 length-runner : (r : Option NamedWaker) → length (runner_of r) ≡ of_running r
 length-runner None = refl
@@ -62,7 +59,7 @@ keeps_seen e = omega (
   length-who (names_in e.cell.permit.queue),
   length-names e.cell.permit.queue,
   length-runner e.running,
-  length-set e.cell.waits.wakers,
+  length-set_names e.cell.waits.wakers,
 )
 
 abbrev kept_in : Names KeptCell → ℕ

@@ -15,7 +15,7 @@ use Rattle.mea_once.specs.declared.actions.TableAction.TheVariants as table
 use Rattle.mea_once.specs.declared.actions.ValueAction.{ValueAction}
 use Rattle.mea_once.specs.declared.actions.ValueAction.TheVariants as value
 use Rattle.mea_once.specs.declared.meaning.Meaning.{Meaning}
-use Rattle.mea_once.specs.declared.meaning.Meaning.TheVariants.{Onces, Cells, CellsAlone, Maps, MapsAlone, Groups}
+use Rattle.mea_once.specs.declared.meaning.Meaning.TheVariants.{Onces, Cells, OnlyCells, Maps, OnlyMaps, Groups}
 use Rattle.mea_once.specs.Parts.{fits, FitsSettled}
 
 -- what may be done to a call that runs once and to a cell
@@ -54,9 +54,9 @@ value_action (value.Remove o k) = tables.RemoveKey o k
 abbrev pub meant : Meaning → model.Meaning
 meant (Onces a) = on_onces (turn_action a)
 meant (Cells a) = on_cells (turn_action a)
-meant (CellsAlone a) = on_cells (whole_action a)
+meant (OnlyCells a) = on_cells (whole_action a)
 meant (Maps a) = on_maps (table_action a)
-meant (MapsAlone a) = on_maps (value_action a)
+meant (OnlyMaps a) = on_maps (value_action a)
 meant (Groups a) = on_groups (table_action a)
 
 -- the errands of a call that runs once are its own, and what its initialisers give tells nothing

@@ -57,9 +57,9 @@ impl Kinds {
         match meaning {
             Meaning::Onces(action) => self.onces.cause(action),
             Meaning::Cells(action) => self.cells.cause(action),
-            Meaning::CellsAlone(action) => self.cells.cause_whole(action),
+            Meaning::OnlyCells(action) => self.cells.cause_whole(action),
             Meaning::Maps(action) => self.maps.cause(action),
-            Meaning::MapsAlone(action) => self.maps.cause_value(action),
+            Meaning::OnlyMaps(action) => self.maps.cause_value(action),
             Meaning::Groups(action) => self.groups.cause(action),
         }
     }
@@ -80,9 +80,9 @@ impl Kinds {
         match meaning {
             Meaning::Onces(action) => self.onces.act(number, action, ready),
             Meaning::Cells(action) => self.cells.act(number, action, ready),
-            Meaning::CellsAlone(action) => self.cells.act_whole(number, action, ready),
+            Meaning::OnlyCells(action) => self.cells.act_whole(number, action, ready),
             Meaning::Maps(action) => self.maps.act(number, action, ready),
-            Meaning::MapsAlone(action) => self.maps.act_value(number, action),
+            Meaning::OnlyMaps(action) => self.maps.act_value(number, action),
             Meaning::Groups(action) => self.groups.act(number, action, ready),
         }
     }

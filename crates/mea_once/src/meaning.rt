@@ -14,11 +14,11 @@ pub enum Meaning {
     /// Something to cells that is done to calls that run once too.
     Cells(TurnAction),
     /// Something to cells alone.
-    CellsAlone(WholeAction),
+    OnlyCells(WholeAction),
     /// Something to maps that is done to groups too.
     Maps(TableAction),
     /// Something to maps alone.
-    MapsAlone(ValueAction),
+    OnlyMaps(ValueAction),
     /// Something to groups.
     Groups(TableAction),
 }
@@ -41,7 +41,7 @@ pub fn meaning_of(event: &OnceEvent) -> Meaning
         OnceEvent::OnEnd(f) => Meaning::Onces(TurnAction::End(f)),
         OnceEvent::OnDrop(o) => Meaning::Onces(TurnAction::Drop(o)),
         OnceEvent::OcNew => Meaning::Cells(TurnAction::Make),
-        OnceEvent::OcFrom(v) => Meaning::CellsAlone(WholeAction::MakeFull(v)),
+        OnceEvent::OcFrom(v) => Meaning::OnlyCells(WholeAction::MakeFull(v)),
         OnceEvent::OcGet(c) => Meaning::Cells(TurnAction::Tell(c)),
         OnceEvent::OcInit(c) => Meaning::Cells(TurnAction::Begin(
             c,
@@ -57,19 +57,19 @@ pub fn meaning_of(event: &OnceEvent) -> Meaning
         OnceEvent::OcSettle(f, v) => Meaning::Cells(TurnAction::Settle(f, Initialiser::Gives(v))),
         OnceEvent::OcFail(f, e) => Meaning::Cells(TurnAction::Settle(f, Initialiser::Fails(e))),
         OnceEvent::OcEnd(f) => Meaning::Cells(TurnAction::End(f)),
-        OnceEvent::OcPeek(c) => Meaning::CellsAlone(WholeAction::Use(c, WholeUse::Tells)),
-        OnceEvent::OcPut(c, v) => Meaning::CellsAlone(WholeAction::Use(c, WholeUse::Writes(v))),
-        OnceEvent::OcTake(c) => Meaning::CellsAlone(WholeAction::Use(c, WholeUse::Takes)),
-        OnceEvent::OcInto(c) => Meaning::CellsAlone(WholeAction::TakeOut(c)),
+        OnceEvent::OcPeek(c) => Meaning::OnlyCells(WholeAction::Use(c, WholeUse::Tells)),
+        OnceEvent::OcPut(c, v) => Meaning::OnlyCells(WholeAction::Use(c, WholeUse::Writes(v))),
+        OnceEvent::OcTake(c) => Meaning::OnlyCells(WholeAction::Use(c, WholeUse::Takes)),
+        OnceEvent::OcInto(c) => Meaning::OnlyCells(WholeAction::TakeOut(c)),
         OnceEvent::OcDrop(c) => Meaning::Cells(TurnAction::Drop(c)),
         OnceEvent::OmNew => Meaning::Maps(TableAction::Make),
-        OnceEvent::OmGet(m, key) => Meaning::MapsAlone(ValueAction::Tell(m, key)),
+        OnceEvent::OmGet(m, key) => Meaning::OnlyMaps(ValueAction::Tell(m, key)),
         OnceEvent::OmCompute(m, key) => Meaning::Maps(TableAction::Begin(m, key)),
         OnceEvent::OmPoll(f, waker) => Meaning::Maps(TableAction::Poll(f, waker)),
         OnceEvent::OmSettle(f, v) => Meaning::Maps(TableAction::Settle(f, Initialiser::Gives(v))),
         OnceEvent::OmFail(f, e) => Meaning::Maps(TableAction::Settle(f, Initialiser::Fails(e))),
         OnceEvent::OmDiscard(m, key) => Meaning::Maps(TableAction::Discard(m, key)),
-        OnceEvent::OmRemove(m, key) => Meaning::MapsAlone(ValueAction::Remove(m, key)),
+        OnceEvent::OmRemove(m, key) => Meaning::OnlyMaps(ValueAction::Remove(m, key)),
         OnceEvent::OmEnd(f) => Meaning::Maps(TableAction::End(f)),
         OnceEvent::OmDrop(m) => Meaning::Maps(TableAction::Drop(m)),
         OnceEvent::SfNew => Meaning::Groups(TableAction::Make),

@@ -1,4 +1,4 @@
-ghost use Rattle.std.specs.Prelude.{◌≡◌, ◌≤◌, ◌∷◌, [], Bool, length, true, false, is_some, None, Some, OnErr, IfOk, IfSome, IfNone};
+ghost use Rattle.std.specs.Prelude.{◌≡◌, ◌≤◌, ◌∷◌, [], Bool, length, true, is_some, None, Some, OnErr, IfOk, IfSome, IfNone};
 ghost use Rattle.mea_sem_core.specs.Core.{held_of};
 ghost use Rattle.mea_sets.specs.WaitSet.{has_given};
 ghost use Rattle.mea_once_core.specs.Permit.{MayPoll, MayEnd};

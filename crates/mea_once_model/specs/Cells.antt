@@ -265,6 +265,7 @@ reply_to (Writes u) None = answers.Lacking
 reply_to (Writes u) (Some v) = answers.Done
 reply_to Takes v = content v
 
+-- the value of a cell that has no future is used
 abbrev pub use_whole : Cells → ℕ → WholeUse → Cell → Outcome Cells
 use_whole h o u c = quietly (with_cell h o (record c { value = value_after u c.value })) (reply_to u c.value)
 

@@ -1,7 +1,7 @@
 //! The model of once types: what each event does to many calls that run once, cells that are filled once, and maps and
 //! groups that compute a value once for each key, with their futures, as records, lists and finite maps, and the laws that
-//! hold of every list of events. It has no code that runs but the types of what a future does at its cell and of what is done to its value; the hall of once
-//! types is proved against it.
+//! hold of every list of events. It has no code that runs but the types of what a future does at its cell and of what is done
+//! to its value; the hall of once types is proved against it.
 #![tactic(auto)]
 
 mod errand;

@@ -68,12 +68,6 @@ there_below things n f x below is = elim (cases_lt f n) [
   | inr high ↦ absurd (let both : None ≡ Some x = sym (below f high) ∙ is in cc)
 ]
 
-asks_of : (b : Bool) → Some (asks b) ≡ Some (asks true) → b ≡ true
-asks_of b same = cc
-
-is_ask : (x : Live) → Some x ≡ Some (asks true) → x ≡ asks true
-is_ask x same = cc
-
 -- ---- no wait is granted a place
 
 abbrev Ungranted : Names Live → Names Live → Type 0
@@ -193,9 +187,6 @@ settles s n e t ws false is lends taken line full closed below size order stays 
 
 drained_parts : (s : Hall) → is_drained s ≡ true → (s.draining ≡ true) × (s.taken ≡ 0)
 drained_parts s is = let parts = and_parts s.draining (s.taken == 0) is in (parts.0, eqb-true s.taken 0 parts.1)
-
-drained_by : (s : Hall) → s.draining ≡ true → s.taken ≡ 0 → is_drained s ≡ true
-drained_by s draining none = (λ i. draining i && (none i == 0))
 
 passes : (s : Hall) (n : ℕ) (e : PoolEvent) (t : Hall) (q : Waiting) → t.waiting ≡ q → (1 ≤ s.taken) → Left s t n → Step s n e (passed_for q t).hall
 passes s n e t [] none some left =

@@ -1,6 +1,6 @@
 -- values of an enum that its derived comparison says are equal
 use Rattle.std.proofs.Common.{◌≡◌, ℕ, Bool, true, false, ◌&&◌, ◌==◌, List, [], ◌∷◌, ap, refl, inl, inr}
-use Rattle.std.proofs.lemmas.Bool.{eqb-true}
+use Rattle.std.proofs.lemmas.Bool.{eqb-true, and_parts}
 use Rattle.mea_family.specs.declared.ledger.Ledger.{Ledger}
 use denote.Struct.Field.{Field}
 use denote.Struct.Values.{Values}
@@ -29,12 +29,8 @@ bare x y e = refl
 pub number : (x y : ℕ × Unit {0}) → (x.0 == y.0) ≡ true → x ≡ y
 number x y e = λ i. (eqb-true x.0 y.0 e i, tt)
 
-both : (a b : Bool) → (a && b) ≡ true → (a ≡ true) × (b ≡ true)
-both true b e = (refl, e)
-both false b e = absurd (cc)
-
 pub numbers : (x y : ℕ × (ℕ × Unit {0})) → (x.0 == y.0 && x.1.0 == y.1.0) ≡ true → x ≡ y
-numbers x y e = λ i. (eqb-true x.0 y.0 (both (x.0 == y.0) (x.1.0 == y.1.0) e).0 i, (eqb-true x.1.0 y.1.0 (both (x.0 == y.0) (x.1.0 == y.1.0) e).1 i, tt))
+numbers x y e = λ i. (eqb-true x.0 y.0 (and_parts (x.0 == y.0) (x.1.0 == y.1.0) e).0 i, (eqb-true x.1.0 y.1.0 (and_parts (x.0 == y.0) (x.1.0 == y.1.0) e).1 i, tt))
 
 -- two accounts that are equal in each number
 pub account : (x y : Ledger × Unit {0})

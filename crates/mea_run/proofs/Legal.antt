@@ -18,7 +18,8 @@ use Rattle.mea_events.specs.declared.event.Event.TheVariants.{Sem}
 use Rattle.mea_hall.specs.World.{World, empty_world, cause_of, step}
 use Rattle.mea_hall.specs.Front.{Front, front_at, front_from, front_of, prepended, IsLegal}
 use Rattle.mea_run.specs.Generated.{drawn_by, draw, round, round_of, rounds_from, first_state, script_of, PollsWait, IsBetweenRounds, begun_by, is_semaphore_poll, pendings}
-use Rattle.mea_run.proofs.Rounds.{AllPlay, after, number_after, PlaysTo, IsReady, played, allowed, round_comes}
+use Rattle.mea_run.proofs.Rounds.{AllPlay, after, number_after, PlaysTo, IsReady, played, round_comes}
+use Rattle.mea_family.proofs.Refusals.{is_known}
 
 -- ---- events of semaphores in the world
 -- the replies of events of semaphores
@@ -109,7 +110,7 @@ last = Sem (events.Ledger 0) ∷ []
 rounds_legal : (n state j : ℕ) (w : World) → IsReady w.semaphores (1 + 9 * j) → (front_from w (1 + 9 * j) (rounds_from state j n ++ last)).cause ≡ None
 unfolding cause_of
 rounds_legal zero state j w ready = ap (λ c. (front_at c w (step w (1 + 9 * j) (Sem (events.Ledger 0))).reply
-    (front_from (step w (1 + 9 * j) (Sem (events.Ledger 0))).world (1 + 9 * j + 1) [])).cause) (allowed (sem_cause.is_named w.semaphores 0) ready.between.named)
+    (front_from (step w (1 + 9 * j) (Sem (events.Ledger 0))).world (1 + 9 * j + 1) [])).cause) (is_known (sem_cause.is_named w.semaphores 0) ready.between.named)
 rounds_legal (suc n) state j w ready =
     ap (λ es. (front_from w (1 + 9 * j) es).cause) (append_assoc (round_of state j) (rounds_from (drawn_by 4 state) (j + 1) n) last)
     ∙ ap (λ (front : Front). front.cause) (front_round w state j (rounds_from (drawn_by 4 state) (j + 1) n ++ last) ready)
@@ -120,7 +121,7 @@ rounds_wait : (n state j : ℕ) (w : World) → IsReady w.semaphores (1 + 9 * j)
 unfolding cause_of
 rounds_wait zero state j w ready = subst (λ c. PollsWait last (front_at c w (step w (1 + 9 * j) (Sem (events.Ledger 0))).reply
     (front_from (step w (1 + 9 * j) (Sem (events.Ledger 0))).world (1 + 9 * j + 1) [])).replies)
-    (sym (allowed (sem_cause.is_named w.semaphores 0) ready.between.named)) ((λ poll. absurd (cc)), tt)
+    (sym (is_known (sem_cause.is_named w.semaphores 0) ready.between.named)) ((λ poll. absurd (cc)), tt)
 rounds_wait (suc n) state j w ready =
     let rest : List Event = rounds_from (drawn_by 4 state) (j + 1) n ++ last in
     subst (λ es. PollsWait es (front_from w (1 + 9 * j) es).replies) (sym (append_assoc (round_of state j) (rounds_from (drawn_by 4 state) (j + 1) n) last))
@@ -172,7 +173,7 @@ rounds_pending : (n state j : ℕ) (w : World) → IsReady w.semaphores (1 + 9 *
 unfolding cause_of step
 rounds_pending zero state j w ready = ap (λ c. pendings (front_at c w (step w (1 + 9 * j) (Sem (events.Ledger 0))).reply
     (front_from (step w (1 + 9 * j) (Sem (events.Ledger 0))).world (1 + 9 * j + 1) [])).replies)
-    (allowed (sem_cause.is_named w.semaphores 0) ready.between.named)
+    (is_known (sem_cause.is_named w.semaphores 0) ready.between.named)
 rounds_pending (suc n) state j w ready =
     let rest : List Event = rounds_from (drawn_by 4 state) (j + 1) n ++ last in
     let next : World = world_after w (1 + 9 * j) (events_of_round w.semaphores state j ready) in

@@ -7,6 +7,7 @@ use Rattle.mea_family.specs.declared.answer.Answer.TheVariants as answers
 use Rattle.mea_family.specs.declared.stop.Stop.TheVariants as stops
 use Rattle.mea_family.specs.Causes.{unknown_unless}
 use Rattle.mea_family.specs.Family.{is_pending}
+use Rattle.mea_family.proofs.Refusals.{is_known}
 use Rattle.mea_base.proofs.Maps.{by_put, value_in, is_there, is_absent, get-there, get-gone}
 use Rattle.mea_base.proofs.Tests.{by_name}
 use Rattle.mea_base.specs.Queue.{granted_in}
@@ -31,10 +32,6 @@ use Rattle.mea_run.specs.Generated.{is_semaphore_poll, IsBetweenRounds}
 -- what an event makes of a hall, of which nothing is computed, so that no term grows with the events of a round
 unfoldable pub played : Hall → ℕ → SemEvent → Outcome
 played h i e = step h i e
-
--- a test that is met gives no cause
-pub allowed : (b : Bool) → b ≡ true → unknown_unless b ≡ None
-allowed b e = ap unknown_unless e
 
 -- ---- events one after another
 -- all these events are played, and each poll among them replies `pending`
@@ -170,7 +167,7 @@ module _ (h : Hall) (i f w : ℕ) (x : Future) (is : get h.futures f ≡ Some x)
   poll_goes : Goes h i 0 (events.Poll f w)
   poll_goes = record {
     fits = tt;
-    cause = allowed (is_future h f) (is_there (get h.futures f) x is);
+    cause = is_known (is_future h f) (is_there (get h.futures f) x is);
     comes = omega arith;
     stands =
         let with = still_stands h x.semaphore
@@ -235,7 +232,7 @@ module _ (h : Hall) (i f : ℕ) (x : Future) (is : get h.futures f ≡ Some x) w
 -- ---- the other events of a round
 module _ (h : Hall) (i n : ℕ) (stands : Stands h) where
   named : unknown_unless (is_named h 0) ≡ None
-  named = allowed (is_named h 0) stands.named
+  named = is_known (is_named h 0) stands.named
 
   -- an acquire, which is plain or owned
   acquire_goes : Goes h i 0 (events.Acq 0 n)

@@ -33,10 +33,6 @@ kept_move m n p q room more k is quiet numbers grows = record {
   places = (let count = ap (λ (a : Machine). length a.tasks) is in let same = same_count m k.sound in let before = k.places in omega (arith, count, same, before, grows));
 }
 
--- the numbers of events fit
-pub events_fit : (m : Machine) → IsSound m → m.events + 1 < 2 ^ 64
-events_fit m s = let room = s.bounded.room in let size = s.bounded.size in omega (arith, room, size)
-
 -- ---- a poll wakes nobody
 pub quiet_poll : (h : Hall) (i f w : ℕ) → (step h i (events.Poll f w)).wakes ≡ []
 quiet_poll h i f w = by_option (get h.futures f)

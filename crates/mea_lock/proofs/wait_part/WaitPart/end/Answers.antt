@@ -1,12 +1,11 @@
 use Rattle.std.proofs.Common.{sym, ap, ◌∙◌}
-use Rattle.std.proofs.lemmas.Bool.{not-true, not-false}
+use Rattle.std.proofs.lemmas.Bool.{not-true, not-false, and_parts}
 use Rattle.mea_family.specs.Causes.{unknown_unless}
 use Rattle.mea_lock.proofs.WaitEvents.{site, wait_there, some_waits, known_number, notified_number, refuted, one_waits, waiting_fits, ends_waiting, ends_quietly, ends_last, next_there, ends_passing}
-use Rattle.mea_lock.proofs.Playing.{both_true}
 use Rattle.mea_lock.proofs.wait_part.WaitPart.end.Goals as goal
 
 pub remove-wait-requires : goal.remove-wait-requires
-remove-wait-requires c = wait_there (site c.self.inside.condvars c.self.inside.waits c.self.inside.next c.self.view_is c.self.invariant c.requires.next c.ranges.number.fits) c.args.f (both_true _ _ (sym c.lives.ensures ∙ c.if-not-lives.false)).0
+remove-wait-requires c = wait_there (site c.self.inside.condvars c.self.inside.waits c.self.inside.next c.self.view_is c.self.invariant c.requires.next c.ranges.number.fits) c.args.f (and_parts _ _ (sym c.lives.ensures ∙ c.if-not-lives.false)).0
 
 pub finish-requires : goal.finish-requires
 finish-requires c = some_waits (site c.self.inside.condvars c.self.inside.waits c.self.inside.next c.self.view_is c.self.invariant c.requires.next c.ranges.number.fits) c.args.f c.remove-wait.result c.at_mut-entry.result.now c.remove-wait.ensures.value c.at_mut-entry.ensures.value
