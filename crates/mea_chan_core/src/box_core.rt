@@ -48,7 +48,8 @@ impl<T: Drop> BoxCore<T> {
     pub fn into_inner(self) -> Box<T>
         ensures { result ≡ self.content }
     {
-        self.content
+        let BoxCore { content } = self;
+        content
     }
 
     /// The content.

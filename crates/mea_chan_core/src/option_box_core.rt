@@ -64,7 +64,8 @@ impl<T: Drop> OptionBoxCore<T> {
     pub fn into_inner(self) -> Option<Box<T>>
         ensures { result ≡ self.content }
     {
-        self.content
+        let OptionBoxCore { content } = self;
+        content
     }
 
     /// The content, if there is one.

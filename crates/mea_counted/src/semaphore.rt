@@ -59,7 +59,8 @@ impl<L: Ledger> NamedSemaphore<L> {
         ensures open { IfOk result (λ core. (core.queue ≡ []) × (core.closed ≡ false)) }
         ensures missing { IfErr result (λ m. (sum_by (λ p. p.parts) permits.items < m.parts) × (m.parts < m.of) × (m.of ≡ L.parts)) }
     {
-        self.state.into_inner().close(permits)
+        let NamedSemaphore { state } = self;
+        state.into_inner().close(permits)
     }
 }
 

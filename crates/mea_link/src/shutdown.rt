@@ -73,7 +73,8 @@ impl<W: Wake> ShutdownSend<W> {
 
     /// Waits until all receivers have ended, whether or not the shutdown was asked for. It takes no memory.
     pub fn await_shutdown(self) -> Wait<W> {
-        Wait::of(self.shared)
+        let ShutdownSend { shared } = self;
+        Wait::of(shared)
     }
 
     /// A further sender. A further share may be refused.

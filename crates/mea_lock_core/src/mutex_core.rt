@@ -241,7 +241,7 @@ impl<V, W: Drop> MutexCore<V, W> {
     pub fn into_inner_checked(self) -> V
         ensures { result ≡ self.value }
     {
-        let MutexCore { value, .. } = self;
+        let MutexCore { permits: _, value } = self;
         value
     }
 }

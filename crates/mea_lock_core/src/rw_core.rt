@@ -393,7 +393,12 @@ impl<V, W: Drop> RwCore<V, W> {
     pub fn into_inner_checked(self) -> V
         ensures { result ≡ self.value }
     {
-        let RwCore { value, .. } = self;
+        let RwCore {
+            permits: _,
+            value,
+            most: _,
+            writing: _,
+        } = self;
         value
     }
 }

@@ -616,7 +616,11 @@ impl<T: Drop, W: Drop> CellCore<T, W> {
     pub fn into_inner_checked(self) -> Option<T>
         ensures { result ≡ self.value }
     {
-        let CellCore { value, .. } = self;
+        let CellCore {
+            value,
+            permit: _,
+            alloc: _,
+        } = self;
         value
     }
 }

@@ -219,7 +219,11 @@ impl<R, W: Drop> PoolCore<R, W> {
         requires { is_drained self ≡ true }
         ensures { result.items ≡ resources_of self.shelf }
     {
-        let PoolCore { shelf, .. } = self;
+        let PoolCore {
+            shelf,
+            places: _,
+            gate: _,
+        } = self;
         shelf.into_resources()
     }
 

@@ -113,7 +113,8 @@ impl<T: Drop, W: Wake> Pool<T, W> {
     /// The resources of a pool that is drained, in the order of its shelf; one that is not comes back as it was. It takes no
     /// memory.
     pub fn into_resources(self) -> Result<Vec<T>, Self> {
-        let core = self.core.into_inner();
+        let Pool { core } = self;
+        let core = core.into_inner();
         if core.is_drained() {
             Ok(core.into_resources())
         } else {

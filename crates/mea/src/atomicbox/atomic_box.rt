@@ -41,7 +41,8 @@ impl<T: Drop> AtomicBox<T> {
 
     /// The content, for who has the whole box, which ends.
     pub fn into_inner(self) -> Box<T> {
-        self.core.into_inner().into_inner()
+        let AtomicBox { core } = self;
+        core.into_inner().into_inner()
     }
 
     /// Lends the content, for who has the whole box.

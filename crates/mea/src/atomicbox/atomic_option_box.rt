@@ -51,7 +51,8 @@ impl<T: Drop> AtomicOptionBox<T> {
 
     /// The content, if there is one, for who has the whole box, which ends.
     pub fn into_inner(self) -> Option<Box<T>> {
-        self.core.into_inner().into_inner()
+        let AtomicOptionBox { core } = self;
+        core.into_inner().into_inner()
     }
 
     /// Lends the content, if there is one, for who has the whole box.

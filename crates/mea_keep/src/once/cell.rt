@@ -134,7 +134,8 @@ impl<T: Drop, W: Wake> OnceCell<T, W> {
 
     /// The value, if there is one, for who has the whole cell, which ends. It takes no memory.
     pub fn into_inner(self) -> Option<T> {
-        self.value.into_inner()
+        let OnceCell { value, core: _ } = self;
+        value.into_inner()
     }
 
     /// Takes the value out, for who has the whole cell, which is empty then. It takes no memory.
