@@ -4,10 +4,8 @@ ghost use Rattle.mea_sets.specs.Countdown.{count_from, PollsCount};
 ghost use Rattle.mea_meet_core.specs.Count.{increased, usable};
 ghost use Rattle.mea_meet_core.specs.Shutdown.{Shutdown, signalled, without_receiver, without_receivers};
 
-use crate::group_core::GroupCore;
-use crate::group_wait::GroupWait;
-use crate::latch_core::LatchCore;
-use crate::latch_wait::LatchWait;
+use crate::group_core::{GroupCore, GroupWait};
+use crate::latch_core::{LatchCore, LatchWait};
 use mea_base::{NoMemory, Outbox, Overflow, Poll};
 use std::alloc::Global;
 use std::marker::Model;
