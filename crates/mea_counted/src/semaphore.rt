@@ -19,7 +19,7 @@ pub struct NamedSemaphore<L: Ledger> {
 }
 
 // Written out: a derive is proved anew in each crate that hands one to a generic function.
-impl<L: Ledger + Drop> Drop for NamedSemaphore<L> {
+impl<L: Ledger> Drop for NamedSemaphore<L> {
     fn drop(self) {
         let NamedSemaphore { state: _ } = self;
     }

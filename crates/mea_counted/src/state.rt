@@ -49,7 +49,7 @@ impl<L: Ledger> Model for NamedState<L> {
 }
 
 // Written out: a derive is proved anew in each crate that hands one to a generic function.
-impl<L: Ledger + Drop> Drop for NamedState<L> {
+impl<L: Ledger> Drop for NamedState<L> {
     fn drop(self) {
         let NamedState {
             core: _,

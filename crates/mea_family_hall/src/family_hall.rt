@@ -33,7 +33,7 @@ impl<F: Family<H>, H> Model for FamilyHall<F, H> {
 }
 
 // Written out: a derive is proved anew in each crate that hands one to a generic function.
-impl<F: Family<H> + Drop, H: Drop> Drop for FamilyHall<F, H> {
+impl<F: Family<H>, H> Drop for FamilyHall<F, H> {
     fn drop(self) {
         let FamilyHall {
             family: _,

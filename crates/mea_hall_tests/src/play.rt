@@ -53,7 +53,7 @@ pub(crate) trait Hall: Drop {
     fn lent(&self, name: u64) -> Lent;
 }
 
-impl<F: Family<M> + Lends, M: Drop> Hall for FamilyHall<F, M> {
+impl<F: Family<M> + Lends, M> Hall for FamilyHall<F, M> {
     type Event = F::Event;
 
     ghost next = { λ h. h.next };

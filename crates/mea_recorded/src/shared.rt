@@ -26,7 +26,7 @@ pub struct RecordedSemaphore<L: Ledger> {
 }
 
 // Written out: a derive is proved anew in each crate that hands one to a generic function.
-impl<L: Ledger + Drop> Drop for RecordedSemaphore<L> {
+impl<L: Ledger> Drop for RecordedSemaphore<L> {
     fn drop(self) {
         let RecordedSemaphore {
             desk: _,
