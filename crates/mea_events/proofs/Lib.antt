@@ -1,1 +1,2 @@
 pub mod ToldReplies
+pub mod SemParts

@@ -3,7 +3,7 @@ ghost use Rattle.std.specs.Cmp.{on_equiv, on_per, partial_equiv_from_equiv};
 ghost use Rattle.std.specs.Cmp.Lexicographic.{nat_list_eq_equiv, pointwise};
 ghost use Rattle.mea_events.specs.ChanParts.{parts};
 
-use crate::shown::shown;
+use crate::shown::{Shown, shown};
 use std::fmt;
 
 /// A line of a script that speaks of channels, or of boxes. In each, `s` names a sender, `r` a
@@ -124,67 +124,68 @@ pub enum ChanEvent {
 }
 
 impl ChanEvent {
-    // Its place among the events of its family, and its numbers, 0 where it has fewer.
+    // Its name, how many numbers it has, and its parts: its place among the events of its family, and its numbers, 0
+    // where it has fewer.
     #[tactic(auto, unfolding(crate::specs::ChanParts::parts))]
-    fn parts(&self) -> [u64; 4]
-        ensures { result ≡ parts self.now }
+    fn shown(&self) -> Shown
+        ensures { result.2 ≡ parts self.now }
     {
         match *self {
-            ChanEvent::MbNew(a) => [0, a, 0, 0],
-            ChanEvent::MbCopy(a) => [1, a, 0, 0],
-            ChanEvent::MbTry(a, b) => [2, a, b, 0],
-            ChanEvent::MbSend(a, b) => [3, a, b, 0],
-            ChanEvent::MbPoll(a, b) => [4, a, b, 0],
-            ChanEvent::MbEnd(a) => [5, a, 0, 0],
-            ChanEvent::MbTryr(a) => [6, a, 0, 0],
-            ChanEvent::MbRecv(a, b) => [7, a, b, 0],
-            ChanEvent::MbEnds(a) => [8, a, 0, 0],
-            ChanEvent::MbEndr(a) => [9, a, 0, 0],
-            ChanEvent::BcNew(a) => [10, a, 0, 0],
-            ChanEvent::BcCopys(a) => [11, a, 0, 0],
-            ChanEvent::BcSend(a, b) => [12, a, b, 0],
-            ChanEvent::BcSub(a) => [13, a, 0, 0],
-            ChanEvent::BcResub(a) => [14, a, 0, 0],
-            ChanEvent::BcCopyr(a) => [15, a, 0, 0],
-            ChanEvent::BcTry(a) => [16, a, 0, 0],
-            ChanEvent::BcRecv(a) => [17, a, 0, 0],
-            ChanEvent::BcPoll(a, b) => [18, a, b, 0],
-            ChanEvent::BcEnd(a) => [19, a, 0, 0],
-            ChanEvent::BcEndr(a) => [20, a, 0, 0],
-            ChanEvent::BcEnds(a) => [21, a, 0, 0],
-            ChanEvent::MuNew => [22, 0, 0, 0],
-            ChanEvent::MuCopy(a) => [23, a, 0, 0],
-            ChanEvent::MuSend(a, b) => [24, a, b, 0],
-            ChanEvent::MuTryr(a) => [25, a, 0, 0],
-            ChanEvent::MuRecv(a, b) => [26, a, b, 0],
-            ChanEvent::MuEnds(a) => [27, a, 0, 0],
-            ChanEvent::MuEndr(a) => [28, a, 0, 0],
-            ChanEvent::OsNew => [29, 0, 0, 0],
-            ChanEvent::OsSend(a, b) => [30, a, b, 0],
-            ChanEvent::OsEnds(a) => [31, a, 0, 0],
-            ChanEvent::OsClosed(a) => [32, a, 0, 0],
-            ChanEvent::OsClosedr(a) => [33, a, 0, 0],
-            ChanEvent::OsHas(a) => [34, a, 0, 0],
-            ChanEvent::OsTry(a) => [35, a, 0, 0],
-            ChanEvent::OsInto(a) => [36, a, 0, 0],
-            ChanEvent::OsPoll(a, b) => [37, a, b, 0],
-            ChanEvent::OsEndr(a) => [38, a, 0, 0],
-            ChanEvent::OsEnd(a) => [39, a, 0, 0],
-            ChanEvent::AbNew(a) => [40, a, 0, 0],
-            ChanEvent::AbSwap(a, b) => [41, a, b, 0],
-            ChanEvent::AbStore(a, b) => [42, a, b, 0],
-            ChanEvent::AbGet(a) => [43, a, 0, 0],
-            ChanEvent::AbInto(a) => [44, a, 0, 0],
-            ChanEvent::AbDrop(a) => [45, a, 0, 0],
-            ChanEvent::AoNew(a) => [46, a, 0, 0],
-            ChanEvent::AoNone => [47, 0, 0, 0],
-            ChanEvent::AoSwap(a, b) => [48, a, b, 0],
-            ChanEvent::AoStore(a, b) => [49, a, b, 0],
-            ChanEvent::AoClear(a) => [50, a, 0, 0],
-            ChanEvent::AoTake(a) => [51, a, 0, 0],
-            ChanEvent::AoGet(a) => [52, a, 0, 0],
-            ChanEvent::AoInto(a) => [53, a, 0, 0],
-            ChanEvent::AoDrop(a) => [54, a, 0, 0],
+            ChanEvent::MbNew(a) => ("MbNew", 1, [0, a, 0, 0]),
+            ChanEvent::MbCopy(a) => ("MbCopy", 1, [1, a, 0, 0]),
+            ChanEvent::MbTry(a, b) => ("MbTry", 2, [2, a, b, 0]),
+            ChanEvent::MbSend(a, b) => ("MbSend", 2, [3, a, b, 0]),
+            ChanEvent::MbPoll(a, b) => ("MbPoll", 2, [4, a, b, 0]),
+            ChanEvent::MbEnd(a) => ("MbEnd", 1, [5, a, 0, 0]),
+            ChanEvent::MbTryr(a) => ("MbTryr", 1, [6, a, 0, 0]),
+            ChanEvent::MbRecv(a, b) => ("MbRecv", 2, [7, a, b, 0]),
+            ChanEvent::MbEnds(a) => ("MbEnds", 1, [8, a, 0, 0]),
+            ChanEvent::MbEndr(a) => ("MbEndr", 1, [9, a, 0, 0]),
+            ChanEvent::BcNew(a) => ("BcNew", 1, [10, a, 0, 0]),
+            ChanEvent::BcCopys(a) => ("BcCopys", 1, [11, a, 0, 0]),
+            ChanEvent::BcSend(a, b) => ("BcSend", 2, [12, a, b, 0]),
+            ChanEvent::BcSub(a) => ("BcSub", 1, [13, a, 0, 0]),
+            ChanEvent::BcResub(a) => ("BcResub", 1, [14, a, 0, 0]),
+            ChanEvent::BcCopyr(a) => ("BcCopyr", 1, [15, a, 0, 0]),
+            ChanEvent::BcTry(a) => ("BcTry", 1, [16, a, 0, 0]),
+            ChanEvent::BcRecv(a) => ("BcRecv", 1, [17, a, 0, 0]),
+            ChanEvent::BcPoll(a, b) => ("BcPoll", 2, [18, a, b, 0]),
+            ChanEvent::BcEnd(a) => ("BcEnd", 1, [19, a, 0, 0]),
+            ChanEvent::BcEndr(a) => ("BcEndr", 1, [20, a, 0, 0]),
+            ChanEvent::BcEnds(a) => ("BcEnds", 1, [21, a, 0, 0]),
+            ChanEvent::MuNew => ("MuNew", 0, [22, 0, 0, 0]),
+            ChanEvent::MuCopy(a) => ("MuCopy", 1, [23, a, 0, 0]),
+            ChanEvent::MuSend(a, b) => ("MuSend", 2, [24, a, b, 0]),
+            ChanEvent::MuTryr(a) => ("MuTryr", 1, [25, a, 0, 0]),
+            ChanEvent::MuRecv(a, b) => ("MuRecv", 2, [26, a, b, 0]),
+            ChanEvent::MuEnds(a) => ("MuEnds", 1, [27, a, 0, 0]),
+            ChanEvent::MuEndr(a) => ("MuEndr", 1, [28, a, 0, 0]),
+            ChanEvent::OsNew => ("OsNew", 0, [29, 0, 0, 0]),
+            ChanEvent::OsSend(a, b) => ("OsSend", 2, [30, a, b, 0]),
+            ChanEvent::OsEnds(a) => ("OsEnds", 1, [31, a, 0, 0]),
+            ChanEvent::OsClosed(a) => ("OsClosed", 1, [32, a, 0, 0]),
+            ChanEvent::OsClosedr(a) => ("OsClosedr", 1, [33, a, 0, 0]),
+            ChanEvent::OsHas(a) => ("OsHas", 1, [34, a, 0, 0]),
+            ChanEvent::OsTry(a) => ("OsTry", 1, [35, a, 0, 0]),
+            ChanEvent::OsInto(a) => ("OsInto", 1, [36, a, 0, 0]),
+            ChanEvent::OsPoll(a, b) => ("OsPoll", 2, [37, a, b, 0]),
+            ChanEvent::OsEndr(a) => ("OsEndr", 1, [38, a, 0, 0]),
+            ChanEvent::OsEnd(a) => ("OsEnd", 1, [39, a, 0, 0]),
+            ChanEvent::AbNew(a) => ("AbNew", 1, [40, a, 0, 0]),
+            ChanEvent::AbSwap(a, b) => ("AbSwap", 2, [41, a, b, 0]),
+            ChanEvent::AbStore(a, b) => ("AbStore", 2, [42, a, b, 0]),
+            ChanEvent::AbGet(a) => ("AbGet", 1, [43, a, 0, 0]),
+            ChanEvent::AbInto(a) => ("AbInto", 1, [44, a, 0, 0]),
+            ChanEvent::AbDrop(a) => ("AbDrop", 1, [45, a, 0, 0]),
+            ChanEvent::AoNew(a) => ("AoNew", 1, [46, a, 0, 0]),
+            ChanEvent::AoNone => ("AoNone", 0, [47, 0, 0, 0]),
+            ChanEvent::AoSwap(a, b) => ("AoSwap", 2, [48, a, b, 0]),
+            ChanEvent::AoStore(a, b) => ("AoStore", 2, [49, a, b, 0]),
+            ChanEvent::AoClear(a) => ("AoClear", 1, [50, a, 0, 0]),
+            ChanEvent::AoTake(a) => ("AoTake", 1, [51, a, 0, 0]),
+            ChanEvent::AoGet(a) => ("AoGet", 1, [52, a, 0, 0]),
+            ChanEvent::AoInto(a) => ("AoInto", 1, [53, a, 0, 0]),
+            ChanEvent::AoDrop(a) => ("AoDrop", 1, [54, a, 0, 0]),
         }
     }
 }
@@ -195,7 +196,7 @@ impl PartialEq for ChanEvent {
     ghost laws = { on_per parts (partial_equiv_from_equiv nat_list_eq_equiv) };
 
     fn eq(&self, other: &ChanEvent) -> bool {
-        self.parts() == other.parts()
+        self.shown().2 == other.shown().2
     }
 }
 
@@ -203,67 +204,8 @@ impl Eq for ChanEvent {
     ghost laws = { on_equiv parts nat_list_eq_equiv };
 }
 
-// The names of the events in their order, and how many numbers each has.
-const NAMES: &[(&str, usize)] = &[
-    ("MbNew", 1),
-    ("MbCopy", 1),
-    ("MbTry", 2),
-    ("MbSend", 2),
-    ("MbPoll", 2),
-    ("MbEnd", 1),
-    ("MbTryr", 1),
-    ("MbRecv", 2),
-    ("MbEnds", 1),
-    ("MbEndr", 1),
-    ("BcNew", 1),
-    ("BcCopys", 1),
-    ("BcSend", 2),
-    ("BcSub", 1),
-    ("BcResub", 1),
-    ("BcCopyr", 1),
-    ("BcTry", 1),
-    ("BcRecv", 1),
-    ("BcPoll", 2),
-    ("BcEnd", 1),
-    ("BcEndr", 1),
-    ("BcEnds", 1),
-    ("MuNew", 0),
-    ("MuCopy", 1),
-    ("MuSend", 2),
-    ("MuTryr", 1),
-    ("MuRecv", 2),
-    ("MuEnds", 1),
-    ("MuEndr", 1),
-    ("OsNew", 0),
-    ("OsSend", 2),
-    ("OsEnds", 1),
-    ("OsClosed", 1),
-    ("OsClosedr", 1),
-    ("OsHas", 1),
-    ("OsTry", 1),
-    ("OsInto", 1),
-    ("OsPoll", 2),
-    ("OsEndr", 1),
-    ("OsEnd", 1),
-    ("AbNew", 1),
-    ("AbSwap", 2),
-    ("AbStore", 2),
-    ("AbGet", 1),
-    ("AbInto", 1),
-    ("AbDrop", 1),
-    ("AoNew", 1),
-    ("AoNone", 0),
-    ("AoSwap", 2),
-    ("AoStore", 2),
-    ("AoClear", 1),
-    ("AoTake", 1),
-    ("AoGet", 1),
-    ("AoInto", 1),
-    ("AoDrop", 1),
-];
-
 impl fmt::Debug for ChanEvent {
     fn fmt<O: fmt::Write>(&self, f: &mut fmt::Formatter<O>) -> fmt::Result {
-        shown(f, NAMES, self.parts())
+        shown(f, self.shown())
     }
 }

@@ -1,7 +1,15 @@
+ghost use Rattle.std.specs.Prelude.{◌≡◌, nat_eq};
+ghost use Rattle.std.specs.Cmp.{on_equiv, on_per, partial_equiv_from_equiv};
+ghost use Rattle.std.specs.Cmp.Lexicographic.{nat_list_eq_equiv, pointwise};
+ghost use Rattle.mea_events.specs.LockParts.{parts};
+
+use crate::shown::{Shown, shown};
+use std::fmt;
+
 /// A line of a script that speaks of locks. In each, `m` names a mutex, `l` a reader-writer lock, `c` a condition
 /// variable, `f` a future, `g` a guard and `x` a future or a guard, by the number of the event that made it; `v` is
 /// a value and `w` a waker. Names are by kind.
-#[derive(Clone, Copy, Debug, PartialEq, Eq)]
+#[derive(Clone, Copy)]
 pub enum LockEvent {
     /// `mx.new v`: makes a mutex with a value.
     MxNew(u64),
@@ -83,4 +91,76 @@ pub enum LockEvent {
     CvEnd(u64),
     /// `cv.drop c`: ends a condition variable that has no wait.
     CvDrop(u64),
+}
+
+impl LockEvent {
+    // Its name, how many numbers it has, and its parts: its place among the events of its family, and its numbers, 0
+    // where it has fewer.
+    #[tactic(auto, unfolding(crate::specs::LockParts::parts))]
+    fn shown(&self) -> Shown
+        ensures { result.2 ≡ parts self.now }
+    {
+        match *self {
+            LockEvent::MxNew(a) => ("MxNew", 1, [0, a, 0, 0]),
+            LockEvent::MxLock(a) => ("MxLock", 1, [1, a, 0, 0]),
+            LockEvent::MxLocko(a) => ("MxLocko", 1, [2, a, 0, 0]),
+            LockEvent::MxPoll(a, b) => ("MxPoll", 2, [3, a, b, 0]),
+            LockEvent::MxTry(a) => ("MxTry", 1, [4, a, 0, 0]),
+            LockEvent::MxTryo(a) => ("MxTryo", 1, [5, a, 0, 0]),
+            LockEvent::MxGet(a) => ("MxGet", 1, [6, a, 0, 0]),
+            LockEvent::MxSet(a, b) => ("MxSet", 2, [7, a, b, 0]),
+            LockEvent::MxEnd(a) => ("MxEnd", 1, [8, a, 0, 0]),
+            LockEvent::MxPeek(a) => ("MxPeek", 1, [9, a, 0, 0]),
+            LockEvent::MxPut(a, b) => ("MxPut", 2, [10, a, b, 0]),
+            LockEvent::MxInto(a) => ("MxInto", 1, [11, a, 0, 0]),
+            LockEvent::MxDrop(a) => ("MxDrop", 1, [12, a, 0, 0]),
+            LockEvent::RwNew(a) => ("RwNew", 1, [13, a, 0, 0]),
+            LockEvent::RwMax(a, b) => ("RwMax", 2, [14, a, b, 0]),
+            LockEvent::RwRead(a) => ("RwRead", 1, [15, a, 0, 0]),
+            LockEvent::RwReado(a) => ("RwReado", 1, [16, a, 0, 0]),
+            LockEvent::RwWrite(a) => ("RwWrite", 1, [17, a, 0, 0]),
+            LockEvent::RwWriteo(a) => ("RwWriteo", 1, [18, a, 0, 0]),
+            LockEvent::RwPoll(a, b) => ("RwPoll", 2, [19, a, b, 0]),
+            LockEvent::RwTryr(a) => ("RwTryr", 1, [20, a, 0, 0]),
+            LockEvent::RwTryro(a) => ("RwTryro", 1, [21, a, 0, 0]),
+            LockEvent::RwTryw(a) => ("RwTryw", 1, [22, a, 0, 0]),
+            LockEvent::RwTrywo(a) => ("RwTrywo", 1, [23, a, 0, 0]),
+            LockEvent::RwGet(a) => ("RwGet", 1, [24, a, 0, 0]),
+            LockEvent::RwSet(a, b) => ("RwSet", 2, [25, a, b, 0]),
+            LockEvent::RwDown(a) => ("RwDown", 1, [26, a, 0, 0]),
+            LockEvent::RwEnd(a) => ("RwEnd", 1, [27, a, 0, 0]),
+            LockEvent::RwPeek(a) => ("RwPeek", 1, [28, a, 0, 0]),
+            LockEvent::RwPut(a, b) => ("RwPut", 2, [29, a, b, 0]),
+            LockEvent::RwInto(a) => ("RwInto", 1, [30, a, 0, 0]),
+            LockEvent::RwDrop(a) => ("RwDrop", 1, [31, a, 0, 0]),
+            LockEvent::CvNew => ("CvNew", 0, [32, 0, 0, 0]),
+            LockEvent::CvWait(a, b) => ("CvWait", 2, [33, a, b, 0]),
+            LockEvent::CvWaitw(a, b, c) => ("CvWaitw", 3, [34, a, b, c]),
+            LockEvent::CvPoll(a, b) => ("CvPoll", 2, [35, a, b, 0]),
+            LockEvent::CvOne(a) => ("CvOne", 1, [36, a, 0, 0]),
+            LockEvent::CvAll(a) => ("CvAll", 1, [37, a, 0, 0]),
+            LockEvent::CvEnd(a) => ("CvEnd", 1, [38, a, 0, 0]),
+            LockEvent::CvDrop(a) => ("CvDrop", 1, [39, a, 0, 0]),
+        }
+    }
+}
+
+impl PartialEq for LockEvent {
+    ghost eq = { λ a b. pointwise nat_eq (parts a) (parts b) };
+
+    ghost laws = { on_per parts (partial_equiv_from_equiv nat_list_eq_equiv) };
+
+    fn eq(&self, other: &LockEvent) -> bool {
+        self.shown().2 == other.shown().2
+    }
+}
+
+impl Eq for LockEvent {
+    ghost laws = { on_equiv parts nat_list_eq_equiv };
+}
+
+impl fmt::Debug for LockEvent {
+    fn fmt<O: fmt::Write>(&self, f: &mut fmt::Formatter<O>) -> fmt::Result {
+        shown(f, self.shown())
+    }
 }

@@ -1,7 +1,15 @@
+ghost use Rattle.std.specs.Prelude.{◌≡◌, nat_eq};
+ghost use Rattle.std.specs.Cmp.{on_equiv, on_per, partial_equiv_from_equiv};
+ghost use Rattle.std.specs.Cmp.Lexicographic.{nat_list_eq_equiv, pointwise};
+ghost use Rattle.mea_events.specs.OnceParts.{parts};
+
+use crate::shown::{Shown, shown};
+use std::fmt;
+
 /// A line of a script that speaks of once types. In each, `o` names a call that runs once, `c` a cell, `m` a map, `g` a
 /// group and `f` a future, by the number of the event that made it; `k` is a key, `v` a value, `e` an error and `w` a
 /// waker. Names are by kind.
-#[derive(Clone, Copy, Debug, PartialEq, Eq)]
+#[derive(Clone, Copy)]
 pub enum OnceEvent {
     /// `on.new`: makes a call that runs once.
     OnNew,
@@ -87,4 +95,78 @@ pub enum OnceEvent {
     SfEnd(u64),
     /// `sf.drop g`: the group is gone.
     SfDrop(u64),
+}
+
+impl OnceEvent {
+    // Its name, how many numbers it has, and its parts: its place among the events of its family, and its numbers, 0
+    // where it has fewer.
+    #[tactic(auto, unfolding(crate::specs::OnceParts::parts))]
+    fn shown(&self) -> Shown
+        ensures { result.2 ≡ parts self.now }
+    {
+        match *self {
+            OnceEvent::OnNew => ("OnNew", 0, [0, 0, 0, 0]),
+            OnceEvent::OnDone(a) => ("OnDone", 1, [1, a, 0, 0]),
+            OnceEvent::OnCall(a) => ("OnCall", 1, [2, a, 0, 0]),
+            OnceEvent::OnWait(a) => ("OnWait", 1, [3, a, 0, 0]),
+            OnceEvent::OnPoll(a, b) => ("OnPoll", 2, [4, a, b, 0]),
+            OnceEvent::OnSettle(a) => ("OnSettle", 1, [5, a, 0, 0]),
+            OnceEvent::OnEnd(a) => ("OnEnd", 1, [6, a, 0, 0]),
+            OnceEvent::OnDrop(a) => ("OnDrop", 1, [7, a, 0, 0]),
+            OnceEvent::OcNew => ("OcNew", 0, [8, 0, 0, 0]),
+            OnceEvent::OcFrom(a) => ("OcFrom", 1, [9, a, 0, 0]),
+            OnceEvent::OcGet(a) => ("OcGet", 1, [10, a, 0, 0]),
+            OnceEvent::OcInit(a) => ("OcInit", 1, [11, a, 0, 0]),
+            OnceEvent::OcSet(a, b) => ("OcSet", 2, [12, a, b, 0]),
+            OnceEvent::OcIns(a, b) => ("OcIns", 2, [13, a, b, 0]),
+            OnceEvent::OcMinit(a) => ("OcMinit", 1, [14, a, 0, 0]),
+            OnceEvent::OcPoll(a, b) => ("OcPoll", 2, [15, a, b, 0]),
+            OnceEvent::OcSettle(a, b) => ("OcSettle", 2, [16, a, b, 0]),
+            OnceEvent::OcFail(a, b) => ("OcFail", 2, [17, a, b, 0]),
+            OnceEvent::OcEnd(a) => ("OcEnd", 1, [18, a, 0, 0]),
+            OnceEvent::OcPeek(a) => ("OcPeek", 1, [19, a, 0, 0]),
+            OnceEvent::OcPut(a, b) => ("OcPut", 2, [20, a, b, 0]),
+            OnceEvent::OcTake(a) => ("OcTake", 1, [21, a, 0, 0]),
+            OnceEvent::OcInto(a) => ("OcInto", 1, [22, a, 0, 0]),
+            OnceEvent::OcDrop(a) => ("OcDrop", 1, [23, a, 0, 0]),
+            OnceEvent::OmNew => ("OmNew", 0, [24, 0, 0, 0]),
+            OnceEvent::OmGet(a, b) => ("OmGet", 2, [25, a, b, 0]),
+            OnceEvent::OmCompute(a, b) => ("OmCompute", 2, [26, a, b, 0]),
+            OnceEvent::OmPoll(a, b) => ("OmPoll", 2, [27, a, b, 0]),
+            OnceEvent::OmSettle(a, b) => ("OmSettle", 2, [28, a, b, 0]),
+            OnceEvent::OmFail(a, b) => ("OmFail", 2, [29, a, b, 0]),
+            OnceEvent::OmDiscard(a, b) => ("OmDiscard", 2, [30, a, b, 0]),
+            OnceEvent::OmRemove(a, b) => ("OmRemove", 2, [31, a, b, 0]),
+            OnceEvent::OmEnd(a) => ("OmEnd", 1, [32, a, 0, 0]),
+            OnceEvent::OmDrop(a) => ("OmDrop", 1, [33, a, 0, 0]),
+            OnceEvent::SfNew => ("SfNew", 0, [34, 0, 0, 0]),
+            OnceEvent::SfWork(a, b) => ("SfWork", 2, [35, a, b, 0]),
+            OnceEvent::SfPoll(a, b) => ("SfPoll", 2, [36, a, b, 0]),
+            OnceEvent::SfSettle(a, b) => ("SfSettle", 2, [37, a, b, 0]),
+            OnceEvent::SfFail(a, b) => ("SfFail", 2, [38, a, b, 0]),
+            OnceEvent::SfForget(a, b) => ("SfForget", 2, [39, a, b, 0]),
+            OnceEvent::SfEnd(a) => ("SfEnd", 1, [40, a, 0, 0]),
+            OnceEvent::SfDrop(a) => ("SfDrop", 1, [41, a, 0, 0]),
+        }
+    }
+}
+
+impl PartialEq for OnceEvent {
+    ghost eq = { λ a b. pointwise nat_eq (parts a) (parts b) };
+
+    ghost laws = { on_per parts (partial_equiv_from_equiv nat_list_eq_equiv) };
+
+    fn eq(&self, other: &OnceEvent) -> bool {
+        self.shown().2 == other.shown().2
+    }
+}
+
+impl Eq for OnceEvent {
+    ghost laws = { on_equiv parts nat_list_eq_equiv };
+}
+
+impl fmt::Debug for OnceEvent {
+    fn fmt<O: fmt::Write>(&self, f: &mut fmt::Formatter<O>) -> fmt::Result {
+        shown(f, self.shown())
+    }
 }

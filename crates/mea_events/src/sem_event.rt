@@ -1,7 +1,15 @@
+ghost use Rattle.std.specs.Prelude.{◌≡◌, nat_eq};
+ghost use Rattle.std.specs.Cmp.{on_equiv, on_per, partial_equiv_from_equiv};
+ghost use Rattle.std.specs.Cmp.Lexicographic.{nat_list_eq_equiv, pointwise};
+ghost use Rattle.mea_events.specs.SemParts.{parts};
+
+use crate::shown::{Shown, shown};
+use std::fmt;
+
 /// A line of a script that speaks of semaphores. In each, `s` names a semaphore, `f` a future, `p` and
 /// `q` permits and `x` a future or a permit, by the number of the event that made it; `n` counts permits
 /// and `w` is a waker.
-#[derive(Clone, Copy, Debug, PartialEq, Eq)]
+#[derive(Clone, Copy)]
 pub enum SemEvent {
     /// `new n`: makes a semaphore with n free permits.
     New(u64),
@@ -49,4 +57,59 @@ pub enum SemEvent {
     Close(u64),
     /// `closed s`: tells whether a semaphore is closed.
     Closed(u64),
+}
+
+impl SemEvent {
+    // Its name, how many numbers it has, and its parts: its place among the events of its family, and its numbers, 0
+    // where it has fewer.
+    #[tactic(auto, unfolding(crate::specs::SemParts::parts))]
+    fn shown(&self) -> Shown
+        ensures { result.2 ≡ parts self.now }
+    {
+        match *self {
+            SemEvent::New(a) => ("New", 1, [0, a, 0, 0]),
+            SemEvent::Free(a) => ("Free", 1, [1, a, 0, 0]),
+            SemEvent::Forget(a, b) => ("Forget", 2, [2, a, b, 0]),
+            SemEvent::Forgetx(a, b) => ("Forgetx", 2, [3, a, b, 0]),
+            SemEvent::Release(a, b) => ("Release", 2, [4, a, b, 0]),
+            SemEvent::Try(a, b) => ("Try", 2, [5, a, b, 0]),
+            SemEvent::Tryo(a, b) => ("Tryo", 2, [6, a, b, 0]),
+            SemEvent::Tryf(a, b) => ("Tryf", 2, [7, a, b, 0]),
+            SemEvent::Tryof(a, b) => ("Tryof", 2, [8, a, b, 0]),
+            SemEvent::Acq(a, b) => ("Acq", 2, [9, a, b, 0]),
+            SemEvent::Acqo(a, b) => ("Acqo", 2, [10, a, b, 0]),
+            SemEvent::Acqf(a, b) => ("Acqf", 2, [11, a, b, 0]),
+            SemEvent::Acqof(a, b) => ("Acqof", 2, [12, a, b, 0]),
+            SemEvent::Poll(a, b) => ("Poll", 2, [13, a, b, 0]),
+            SemEvent::End(a) => ("End", 1, [14, a, 0, 0]),
+            SemEvent::Lose(a) => ("Lose", 1, [15, a, 0, 0]),
+            SemEvent::Merge(a, b) => ("Merge", 2, [16, a, b, 0]),
+            SemEvent::Split(a, b) => ("Split", 2, [17, a, b, 0]),
+            SemEvent::Size(a) => ("Size", 1, [18, a, 0, 0]),
+            SemEvent::Endsem(a) => ("Endsem", 1, [19, a, 0, 0]),
+            SemEvent::Ledger(a) => ("Ledger", 1, [20, a, 0, 0]),
+            SemEvent::Close(a) => ("Close", 1, [21, a, 0, 0]),
+            SemEvent::Closed(a) => ("Closed", 1, [22, a, 0, 0]),
+        }
+    }
+}
+
+impl PartialEq for SemEvent {
+    ghost eq = { λ a b. pointwise nat_eq (parts a) (parts b) };
+
+    ghost laws = { on_per parts (partial_equiv_from_equiv nat_list_eq_equiv) };
+
+    fn eq(&self, other: &SemEvent) -> bool {
+        self.shown().2 == other.shown().2
+    }
+}
+
+impl Eq for SemEvent {
+    ghost laws = { on_equiv parts nat_list_eq_equiv };
+}
+
+impl fmt::Debug for SemEvent {
+    fn fmt<O: fmt::Write>(&self, f: &mut fmt::Formatter<O>) -> fmt::Result {
+        shown(f, self.shown())
+    }
 }

@@ -1,0 +1,41 @@
+-- what tells an event of a meeting point from each other
+use Rattle.std.specs.Prelude.{ℕ, List, ◌∷◌, []}
+use Rattle.mea_events.specs.declared.meet_event.MeetEvent.{MeetEvent}
+use Rattle.mea_events.specs.declared.meet_event.MeetEvent.TheVariants as Meet
+
+-- its place among the events of its family, and its numbers, 0 where it has fewer
+unfoldable pub parts : MeetEvent → List ℕ
+parts (Meet.BarNew a) = 0 ∷ a ∷ 0 ∷ 0 ∷ []
+parts (Meet.BarWait a) = 1 ∷ a ∷ 0 ∷ 0 ∷ []
+parts (Meet.BarPoll a b) = 2 ∷ a ∷ b ∷ 0 ∷ []
+parts (Meet.BarEnd a) = 3 ∷ a ∷ 0 ∷ 0 ∷ []
+parts (Meet.BarDrop a) = 4 ∷ a ∷ 0 ∷ 0 ∷ []
+parts (Meet.LatNew a) = 5 ∷ a ∷ 0 ∷ 0 ∷ []
+parts (Meet.LatCount a) = 6 ∷ a ∷ 0 ∷ 0 ∷ []
+parts (Meet.LatDown a) = 7 ∷ a ∷ 0 ∷ 0 ∷ []
+parts (Meet.LatArrive a b) = 8 ∷ a ∷ b ∷ 0 ∷ []
+parts (Meet.LatTry a) = 9 ∷ a ∷ 0 ∷ 0 ∷ []
+parts (Meet.LatWait a) = 10 ∷ a ∷ 0 ∷ 0 ∷ []
+parts (Meet.LatWaito a) = 11 ∷ a ∷ 0 ∷ 0 ∷ []
+parts (Meet.LatPoll a b) = 12 ∷ a ∷ b ∷ 0 ∷ []
+parts (Meet.LatEnd a) = 13 ∷ a ∷ 0 ∷ 0 ∷ []
+parts (Meet.LatDrop a) = 14 ∷ a ∷ 0 ∷ 0 ∷ []
+parts (Meet.WgNew) = 15 ∷ 0 ∷ 0 ∷ 0 ∷ []
+parts (Meet.WgClone a) = 16 ∷ a ∷ 0 ∷ 0 ∷ []
+parts (Meet.WgInto a) = 17 ∷ a ∷ 0 ∷ 0 ∷ []
+parts (Meet.WgCopy a) = 18 ∷ a ∷ 0 ∷ 0 ∷ []
+parts (Meet.WgPoll a b) = 19 ∷ a ∷ b ∷ 0 ∷ []
+parts (Meet.WgEnd a) = 20 ∷ a ∷ 0 ∷ 0 ∷ []
+parts (Meet.SdNew) = 21 ∷ 0 ∷ 0 ∷ 0 ∷ []
+parts (Meet.SdCopys a) = 22 ∷ a ∷ 0 ∷ 0 ∷ []
+parts (Meet.SdCopyr a) = 23 ∷ a ∷ 0 ∷ 0 ∷ []
+parts (Meet.SdSignal a) = 24 ∷ a ∷ 0 ∷ 0 ∷ []
+parts (Meet.SdNow a) = 25 ∷ a ∷ 0 ∷ 0 ∷ []
+parts (Meet.SdWatch a) = 26 ∷ a ∷ 0 ∷ 0 ∷ []
+parts (Meet.SdIs a) = 27 ∷ a ∷ 0 ∷ 0 ∷ []
+parts (Meet.SdIso a) = 28 ∷ a ∷ 0 ∷ 0 ∷ []
+parts (Meet.SdAwait a) = 29 ∷ a ∷ 0 ∷ 0 ∷ []
+parts (Meet.SdPoll a b) = 30 ∷ a ∷ b ∷ 0 ∷ []
+parts (Meet.SdEnd a) = 31 ∷ a ∷ 0 ∷ 0 ∷ []
+parts (Meet.SdEnds a) = 32 ∷ a ∷ 0 ∷ 0 ∷ []
+parts (Meet.SdEndr a) = 33 ∷ a ∷ 0 ∷ 0 ∷ []
