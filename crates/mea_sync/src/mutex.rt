@@ -39,7 +39,8 @@ impl<T: Drop, W: Wake> Mutex<T, W> {
     /// The value, which leaves the mutex. It is None only while a guard has it, and a guard borrows the mutex
     /// or owns a share of it; no clause can say so. It takes no memory.
     pub fn into_inner(self) -> Option<T> {
-        self.core.into_inner().into_value()
+        let Mutex { core } = self;
+        core.into_inner().into_value()
     }
 
     /// The value for writing, for who has the whole mutex: as `into_inner`. It takes no memory.

@@ -57,7 +57,8 @@ impl<T: Drop, W: Wake> RwLock<T, W> {
     /// The value, which leaves the lock. It is None only while a guard has it, and a guard borrows the lock
     /// or owns a share of it; no clause can say so. It takes no memory.
     pub fn into_inner(self) -> Option<T> {
-        self.core.into_inner().into_value()
+        let RwLock { core } = self;
+        core.into_inner().into_value()
     }
 
     /// The value for writing, for who has the whole lock. It is None only while a guard has it or a share of it, as for
