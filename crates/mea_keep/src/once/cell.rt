@@ -134,7 +134,11 @@ impl<T: Drop, W: Wake> OnceCell<T, W> {
 
     /// The value, if there is one, for who has the whole cell, which ends. It takes no memory.
     pub fn into_inner(self) -> Option<T> {
-        let OnceCell { value, core: _ } = self;
+        let OnceCell {
+            alloc: _,
+            core: _,
+            value,
+        } = self;
         value.into_inner()
     }
 
