@@ -37,12 +37,12 @@ pub account : (x y : Ledger × Unit {0})
     → (x.0.made == y.0.made && (x.0.released == y.0.released && (x.0.owed == y.0.owed && (x.0.free == y.0.free && (x.0.held == y.0.held && (x.0.paid == y.0.paid && x.0.forgotten == y.0.forgotten)))))) ≡ true
     → x ≡ y
 account x y e =
-    let one = both (x.0.made == y.0.made) _ e in
-    let two = both (x.0.released == y.0.released) _ one.1 in
-    let three = both (x.0.owed == y.0.owed) _ two.1 in
-    let four = both (x.0.free == y.0.free) _ three.1 in
-    let five = both (x.0.held == y.0.held) _ four.1 in
-    let six = both (x.0.paid == y.0.paid) _ five.1 in
+    let one = and_parts (x.0.made == y.0.made) _ e in
+    let two = and_parts (x.0.released == y.0.released) _ one.1 in
+    let three = and_parts (x.0.owed == y.0.owed) _ two.1 in
+    let four = and_parts (x.0.free == y.0.free) _ three.1 in
+    let five = and_parts (x.0.held == y.0.held) _ four.1 in
+    let six = and_parts (x.0.paid == y.0.paid) _ five.1 in
     λ i. (
       record {
         made = eqb-true x.0.made y.0.made one.0 i;
