@@ -623,6 +623,17 @@ module _ {old : Part ShareHall} {i : ℕ} (s : Site old i) where
               by_has (inr was) = no_pending tt (polls.1 was).0
           by_stage Done stage polls = absurd (not_done stage)
 
+      -- it did not wait yet, and no permit is free
+      pub queued_now : (poll : Poll (Unit {0})) (e' : KeptAdmission) (y : KeptFuture) (w : ℕ) (before after : Waking ℕ) → PollsEntry e x w poll e' y before after → not (is_queued x.stage) && (e.fair.free == 0) ≡ true
+          → DidWake s (actions.Poll f w) answers.Pending (insert s.es o e') (insert s.fs f y) s.ps before after
+      queued_now Pending e' y w before after did waits = pended e' y w before after did
+      queued_now (Ready u) e' y w before after did waits = by_stage x.stage refl (over_is (is_queued x.stage) e.fair.free waits) did.polls
+        where
+          by_stage : (t : ShareStage) → x.stage ≡ t → (is_queued t ≡ false) × (e.fair.free ≡ 0) → Polls nat_eq e.fair x.key t w (Ready u) e'.fair y.stage → DidWake s (actions.Poll f w) answers.Pending (insert s.es o e') (insert s.fs f y) s.ps before after
+          by_stage New stage is polls = no_ready u (polls.1 is.1).0
+          by_stage (Queued n) stage is polls = absurd (let no = is.0 in cc)
+          by_stage Done stage is polls = absurd (not_done stage)
+
       pub readied_now : (e' : KeptAdmission) (y : KeptFuture) (w : ℕ) (u : Unit {0}) (before after : Waking ℕ) → PollsEntry e x w (Ready u) e' y before after → DidWake s (actions.Poll f w) answers.Ready (insert s.es o e') (remove (insert s.fs f y) f) (insert s.ps i permit) before after
       readied_now e' y w unit before after did = by_stage x.stage refl did.polls
         where

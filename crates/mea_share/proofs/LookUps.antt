@@ -35,9 +35,6 @@ module _ {old : Part ShareHall} {i : ℕ} (s : Site old i) where
       at (Some x) is = absurd (let there = seen-at future_seen s.fs f x is in let gone : get (seen future_seen s.fs) f ≡ None = ap (λ (p : Part ShareHall). get p.hall.futures f) s.view ∙ none in cc)
 
   -- what was looked at is as it was
-  pub same_future : (f : ℕ) (x : KeptFuture) → get s.fs f ≡ Some x → AreKeptAdmissions s.es (insert s.fs f x) s.ps s.next × (◌≡◌ {A = Part ShareHall} (part_of s.es (insert s.fs f x) s.ps s.next) old)
-  same_future f x is = rw (insert_same s.fs f x is) (s.kept, s.view)
-
   pub same_both : (o : ℕ) (e : KeptAdmission) (f : ℕ) (x : KeptFuture) → get s.es o ≡ Some e → get s.fs f ≡ Some x
       → AreKeptAdmissions (insert s.es o e) (insert s.fs f x) s.ps s.next × (◌≡◌ {A = Part ShareHall} (part_of (insert s.es o e) (insert s.fs f x) s.ps s.next) old)
   same_both o e f x there is = rw (insert_same s.es o e there, insert_same s.fs f x is) (s.kept, s.view)

@@ -2,7 +2,7 @@ ghost use Rattle.std.specs.Prelude.{ℕ, ◌≡◌, ◌≢◌, ◌+◌, ◌-◌,
 ghost use Rattle.mea_family.specs.Causes.{borrowed_by};
 ghost use Rattle.mea_share_model.specs.Actions.{zero_by};
 ghost use Rattle.mea_share_core.specs.Share.{taken, released, weighing};
-ghost use Rattle.mea_share_core.specs.Fair.{Fair, IsSettled, Belongs, share_of, waiters_of, Becomes, IsSame};
+ghost use Rattle.mea_share_core.specs.Fair.{Fair, IsSettled, Belongs, share_of, waiters_of, is_queued, Becomes, IsSame};
 
 use crate::future_entry::FutureEntry;
 use mea_base::{NoMemory, Poll, Ready};
@@ -137,6 +137,13 @@ impl AdmissionEntry {
         ensures err { OnErr result (self.new ≡ self.old) }
     {
         self.core.set_weight(key, weight)
+    }
+
+    /// Whether a poll of a future lets it begin to wait. It takes no memory.
+    pub fn would_queue(&self, future: &FutureEntry) -> bool
+        ensures { result ≡ not (is_queued future.now.stage) && (self.now.fair.free == 0) }
+    {
+        !future.is_queued() && self.core.available_permits() == 0
     }
 
     /// Polls a future. The waker is counted before it is registered, and no longer where it was not registered or took the

@@ -9,7 +9,5 @@ mod meaning;
 mod part;
 mod permit_entry;
 
-pub use admission_entry::{AdmissionEntry, Core};
+pub use admission_entry::Core;
 pub use family::{ShareFamily, ShareHall, ShareModel};
-pub use future_entry::FutureEntry;
-pub use permit_entry::PermitEntry;

@@ -316,7 +316,7 @@ impl SharePart {
         Ok(Answer::Held)
     }
 
-    // Polls a future. Room for the permit is made first.
+    // Polls a future. Room for the permit is made first, but for one that begins to wait.
     fn poll(
         &mut self,
         number: u64,
@@ -330,10 +330,17 @@ impl SharePart {
         let Some(future) = self.futures.get_mut(f) else {
             return Err(Stop::Unknown);
         };
+        let entry = self.admissions.at_mut(future.admission());
+        if entry.would_queue(future) {
+            let Ok(_) = entry.poll(future, waker, ready) else {
+                return Err(Stop::NoMemory);
+            };
+            self.next = number as u128 + 1;
+            return Ok(Answer::Pending);
+        }
         let Ok(permit) = future.permit() else {
             return Err(Stop::NoMemory);
         };
-        let entry = self.admissions.at_mut(future.admission());
         let Ok(()) = self.permits.reserve(1) else {
             return Err(Stop::NoMemory);
         };
