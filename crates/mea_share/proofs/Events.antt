@@ -624,7 +624,7 @@ module _ {old : Part ShareHall} {i : ℕ} (s : Site old i) where
           by_stage Done stage polls = absurd (not_done stage)
 
       -- it did not wait yet, and no permit is free
-      pub queued_now : (poll : Poll (Unit {0})) (e' : KeptAdmission) (y : KeptFuture) (w : ℕ) (before after : Waking ℕ) → PollsEntry e x w poll e' y before after → not (is_queued x.stage) && (e.fair.free == 0) ≡ true
+      pub queued_now : (poll : Poll (Unit {0})) (e' : KeptAdmission) (y : KeptFuture) (w : ℕ) (before after : Waking ℕ) → PollsEntry e x w poll e' y before after → (not (is_queued x.stage) && (e.fair.free == 0)) ≡ true
           → DidWake s (actions.Poll f w) answers.Pending (insert s.es o e') (insert s.fs f y) s.ps before after
       queued_now Pending e' y w before after did waits = pended e' y w before after did
       queued_now (Ready u) e' y w before after did waits = by_stage x.stage refl (over_is (is_queued x.stage) e.fair.free waits) did.polls

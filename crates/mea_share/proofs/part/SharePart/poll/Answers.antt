@@ -20,10 +20,10 @@ pub returns-in_default-poll : goal.returns-in_default-poll
 returns-in_default-poll c = (lacks_memory (site c.self.inside.admissions c.self.inside.futures c.self.inside.permits.things c.self.inside.next c.self.view_is c.self.invariant c.requires c.ranges.number.fits) (Poll c.args.f c.args.waker) (may_poll (site c.self.inside.admissions c.self.inside.futures c.self.inside.permits.things c.self.inside.next c.self.view_is c.self.invariant c.requires c.ranges.number.fits) c.args.f c.args.waker c.in-Some.future.now (sym c.in-Some.ensures.value)) (λ no. no), (failed (site c.self.inside.admissions c.self.inside.futures c.self.inside.permits.things c.self.inside.next c.self.view_is c.self.invariant c.requires c.ranges.number.fits) c.admission.result c.at_mut-entry.result.now c.at_mut-entry.ensures.value c.args.f c.in-Some.future.now (sym c.in-Some.ensures.value) (sym c.admission.ensures) c.poll.new.self c.poll.new.future c.in_default-poll.ensures.err.0 c.in_default-poll.ensures.same c.in_default-poll.ensures.err.1).1, c.in_default-poll.ensures.err.2)
 
 pub invariant_of-self-then-would_queue : goal.invariant_of-self-then-would_queue
-invariant_of-self-then-would_queue c = (queued_now (site c.self.inside.admissions c.self.inside.futures c.self.inside.permits.things c.self.inside.next c.self.view_is c.self.invariant c.requires c.ranges.number.fits) c.admission.result c.at_mut-entry.result.now c.at_mut-entry.ensures.value c.args.f c.in-Some.future.now (sym c.in-Some.ensures.value) (sym c.admission.ensures) _ c.poll.new.self c.poll.new.future c.args.waker c.args.ready.now c.poll.new.ready c.in-Ok-poll.ensures.polls (sym c.would_queue.ensures ∙ c.if-would_queue.true)).0
+invariant_of-self-then-would_queue c = (queued_now (site c.self.inside.admissions c.self.inside.futures c.self.inside.permits.things c.self.inside.next c.self.view_is c.self.invariant c.requires c.ranges.number.fits) c.admission.result c.at_mut-entry.result.now c.at_mut-entry.ensures.value c.args.f c.in-Some.future.now (sym c.in-Some.ensures.value) (sym c.admission.ensures) _ c.poll.new.self c.poll.new.future c.args.waker c.args.ready.now c.poll.new.ready c.in-Ok.ensures.polls (sym c.would_queue.ensures ∙ c.if-would_queue.true)).0
 
 pub returns-then-would_queue : goal.returns-then-would_queue
-returns-then-would_queue c = (queued_now (site c.self.inside.admissions c.self.inside.futures c.self.inside.permits.things c.self.inside.next c.self.view_is c.self.invariant c.requires c.ranges.number.fits) c.admission.result c.at_mut-entry.result.now c.at_mut-entry.ensures.value c.args.f c.in-Some.future.now (sym c.in-Some.ensures.value) (sym c.admission.ensures) _ c.poll.new.self c.poll.new.future c.args.waker c.args.ready.now c.poll.new.ready c.in-Ok-poll.ensures.polls (sym c.would_queue.ensures ∙ c.if-would_queue.true)).1
+returns-then-would_queue c = (queued_now (site c.self.inside.admissions c.self.inside.futures c.self.inside.permits.things c.self.inside.next c.self.view_is c.self.invariant c.requires c.ranges.number.fits) c.admission.result c.at_mut-entry.result.now c.at_mut-entry.ensures.value c.args.f c.in-Some.future.now (sym c.in-Some.ensures.value) (sym c.admission.ensures) _ c.poll.new.self c.poll.new.future c.args.waker c.args.ready.now c.poll.new.ready c.in-Ok.ensures.polls (sym c.would_queue.ensures ∙ c.if-would_queue.true)).1
 
 pub invariant_of-self-in_default-permit : goal.invariant_of-self-in_default-permit
 invariant_of-self-in_default-permit c = (same_both (site c.self.inside.admissions c.self.inside.futures c.self.inside.permits.things c.self.inside.next c.self.view_is c.self.invariant c.requires c.ranges.number.fits) c.admission.result c.at_mut-entry.result.now c.args.f c.in-Some.future.now c.at_mut-entry.ensures.value (sym c.in-Some.ensures.value)).0
@@ -37,11 +37,11 @@ invariant_of-self-in_default-reserve c = rw c.reserve.ensures.things (same_both 
 pub returns-in_default-reserve : goal.returns-in_default-reserve
 returns-in_default-reserve c = rw c.reserve.ensures.things (lacks_memory (site c.self.inside.admissions c.self.inside.futures c.self.inside.permits.things c.self.inside.next c.self.view_is c.self.invariant c.requires c.ranges.number.fits) (Poll c.args.f c.args.waker) (may_poll (site c.self.inside.admissions c.self.inside.futures c.self.inside.permits.things c.self.inside.next c.self.view_is c.self.invariant c.requires c.ranges.number.fits) c.args.f c.args.waker c.in-Some.future.now (sym c.in-Some.ensures.value)) (λ no. no), (same_both (site c.self.inside.admissions c.self.inside.futures c.self.inside.permits.things c.self.inside.next c.self.view_is c.self.invariant c.requires c.ranges.number.fits) c.admission.result c.at_mut-entry.result.now c.args.f c.in-Some.future.now c.at_mut-entry.ensures.value (sym c.in-Some.ensures.value)).1, refl)
 
-pub poll-2-requires : goal.poll-2-requires
-poll-2-requires c = belongs (site c.self.inside.admissions c.self.inside.futures c.self.inside.permits.things c.self.inside.next c.self.view_is c.self.invariant c.requires c.ranges.number.fits) c.admission.result c.at_mut-entry.result.now c.at_mut-entry.ensures.value c.args.f c.in-Some.future.now (sym c.in-Some.ensures.value) (sym c.admission.ensures)
+pub poll-requires-2 : goal.poll-requires-2
+poll-requires-2 c = belongs (site c.self.inside.admissions c.self.inside.futures c.self.inside.permits.things c.self.inside.next c.self.view_is c.self.invariant c.requires c.ranges.number.fits) c.admission.result c.at_mut-entry.result.now c.at_mut-entry.ensures.value c.args.f c.in-Some.future.now (sym c.in-Some.ensures.value) (sym c.admission.ensures)
 
-pub invariant_of-self-in-Err-poll : goal.invariant_of-self-in-Err-poll
-invariant_of-self-in-Err-poll c = rw c.reserve.ensures.things (failed (site c.self.inside.admissions c.self.inside.futures c.self.inside.permits.things c.self.inside.next c.self.view_is c.self.invariant c.requires c.ranges.number.fits) c.admission.result c.at_mut-entry.result.now c.at_mut-entry.ensures.value c.args.f c.in-Some.future.now (sym c.in-Some.ensures.value) (sym c.admission.ensures) c.poll-2.new.self c.poll-2.new.future c.in-Err.ensures.err.0 c.in-Err.ensures.same c.in-Err.ensures.err.1).0
+pub invariant_of-self-in-Err-poll-2 : goal.invariant_of-self-in-Err-poll-2
+invariant_of-self-in-Err-poll-2 c = rw c.reserve.ensures.things (failed (site c.self.inside.admissions c.self.inside.futures c.self.inside.permits.things c.self.inside.next c.self.view_is c.self.invariant c.requires c.ranges.number.fits) c.admission.result c.at_mut-entry.result.now c.at_mut-entry.ensures.value c.args.f c.in-Some.future.now (sym c.in-Some.ensures.value) (sym c.admission.ensures) c.poll-2.new.self c.poll-2.new.future c.in-Err.ensures.err.0 c.in-Err.ensures.same c.in-Err.ensures.err.1).0
 
 pub returns-in-Err : goal.returns-in-Err
 returns-in-Err c = (lacks_memory (site c.self.inside.admissions c.self.inside.futures c.self.inside.permits.things c.self.inside.next c.self.view_is c.self.invariant c.requires c.ranges.number.fits) (Poll c.args.f c.args.waker) (may_poll (site c.self.inside.admissions c.self.inside.futures c.self.inside.permits.things c.self.inside.next c.self.view_is c.self.invariant c.requires c.ranges.number.fits) c.args.f c.args.waker c.in-Some.future.now (sym c.in-Some.ensures.value)) (λ no. no), rw c.reserve.ensures.things (failed (site c.self.inside.admissions c.self.inside.futures c.self.inside.permits.things c.self.inside.next c.self.view_is c.self.invariant c.requires c.ranges.number.fits) c.admission.result c.at_mut-entry.result.now c.at_mut-entry.ensures.value c.args.f c.in-Some.future.now (sym c.in-Some.ensures.value) (sym c.admission.ensures) c.poll-2.new.self c.poll-2.new.future c.in-Err.ensures.err.0 c.in-Err.ensures.same c.in-Err.ensures.err.1).1, c.in-Err.ensures.err.2)
@@ -59,8 +59,8 @@ remove-requires c = is_there _ _ (get-there c.self.inside.futures c.args.f _)
 
 pub invariant_of-self-in-Ok-Ready : goal.invariant_of-self-in-Ok-Ready
 invariant_of-self-in-Ok-Ready c = let polled = rw c.in-Ok-Ready.field-0-is at c.in-Ok-Ready.ensures.polls in
-    rw (c.remove.ensures.rest, c.insert.ensures.things, c.reserve.ensures.things, c.in-Ok.ensures) (readied_now (site c.self.inside.admissions c.self.inside.futures c.self.inside.permits.things c.self.inside.next c.self.view_is c.self.invariant c.requires c.ranges.number.fits) c.admission.result c.at_mut-entry.result.now c.at_mut-entry.ensures.value c.args.f c.in-Some.future.now (sym c.in-Some.ensures.value) (sym c.admission.ensures) c.poll-2.new.self c.poll-2.new.future c.args.waker _ c.args.ready.now c.poll-2.new.ready polled).0
+    rw (c.remove.ensures.rest, c.insert.ensures.things, c.reserve.ensures.things, c.in-Ok-permit.ensures) (readied_now (site c.self.inside.admissions c.self.inside.futures c.self.inside.permits.things c.self.inside.next c.self.view_is c.self.invariant c.requires c.ranges.number.fits) c.admission.result c.at_mut-entry.result.now c.at_mut-entry.ensures.value c.args.f c.in-Some.future.now (sym c.in-Some.ensures.value) (sym c.admission.ensures) c.poll-2.new.self c.poll-2.new.future c.args.waker _ c.args.ready.now c.poll-2.new.ready polled).0
 
 pub returns-in-Ok-Ready : goal.returns-in-Ok-Ready
 returns-in-Ok-Ready c = let polled = rw c.in-Ok-Ready.field-0-is at c.in-Ok-Ready.ensures.polls in
-    rw (c.remove.ensures.rest, c.insert.ensures.things, c.reserve.ensures.things, c.in-Ok.ensures) (readied_now (site c.self.inside.admissions c.self.inside.futures c.self.inside.permits.things c.self.inside.next c.self.view_is c.self.invariant c.requires c.ranges.number.fits) c.admission.result c.at_mut-entry.result.now c.at_mut-entry.ensures.value c.args.f c.in-Some.future.now (sym c.in-Some.ensures.value) (sym c.admission.ensures) c.poll-2.new.self c.poll-2.new.future c.args.waker _ c.args.ready.now c.poll-2.new.ready polled).1
+    rw (c.remove.ensures.rest, c.insert.ensures.things, c.reserve.ensures.things, c.in-Ok-permit.ensures) (readied_now (site c.self.inside.admissions c.self.inside.futures c.self.inside.permits.things c.self.inside.next c.self.view_is c.self.invariant c.requires c.ranges.number.fits) c.admission.result c.at_mut-entry.result.now c.at_mut-entry.ensures.value c.args.f c.in-Some.future.now (sym c.in-Some.ensures.value) (sym c.admission.ensures) c.poll-2.new.self c.poll-2.new.future c.args.waker _ c.args.ready.now c.poll-2.new.ready polled).1
