@@ -1,6 +1,10 @@
+ghost use Rattle.std.specs.Prelude.{IfSome};
+
 use crate::leases::{bell, granted, hears, pool, share, uses, waits};
-use mea_shared_pool::Pool;
+use mea_shared_pool::{Closed, Pool};
 use mea_test_support::{Bell, Count, end, gives, goes_on, rung};
+use mea_wait::{End, Waits};
+use std::ops::DerefMut;
 use std::process::Abort;
 use std::sync::{Arc, Wait};
 
@@ -37,8 +41,33 @@ fn go_in_order<R: Wait + Abort>(rt: &R, pool: &Pool<u64, Bell>, one: &Count, two
     let eleven = granted(rt, Some(pool.get()), one);
     assert!(rt; pool.idle(rt) == 0);
     assert!(rt; !end(rt, pool.try_get(rt)));
-    let first = waits(rt, pool.get(), one);
-    let second = waits(rt, pool.get(), two);
+    come_back(
+        rt,
+        pool,
+        (ten, eleven),
+        (pool.get(), pool.get()),
+        (one, two),
+    );
+    assert!(rt; uses(rt, pool.try_get(rt), 22) == Some(21));
+    assert!(rt; (rung(one), rung(two), pool.idle(rt)) == (1, 1, 2));
+}
+
+// Two wait while two leases are out, which come back one after the other.
+fn come_back<R: Wait + Abort, L: End + DerefMut<Target = u64>, F: Waits<Bell, Result<L, Closed>>>(
+    rt: &R,
+    pool: &Pool<u64, Bell>,
+    leases: (Option<L>, Option<L>),
+    callers: (F, F),
+    bells: (&Count, &Count),
+)
+    requires first { F.can_poll callers.0 }
+    requires second { F.can_poll callers.1 }
+{
+    let (one, two) = bells;
+    let (ten, eleven) = leases;
+    let (first, second) = callers;
+    let first = waits(rt, first, one);
+    let second = waits(rt, second, two);
     assert!(rt; uses(rt, ten, 20) == Some(10));
     assert!(rt; (rung(one), rung(two), pool.idle(rt)) == (1, 0, 1));
     assert!(rt; !end(rt, pool.try_get(rt)));
@@ -46,8 +75,6 @@ fn go_in_order<R: Wait + Abort>(rt: &R, pool: &Pool<u64, Bell>, one: &Count, two
     assert!(rt; (rung(one), rung(two)) == (1, 1));
     assert!(rt; uses(rt, eleven, 21) == Some(11));
     assert!(rt; uses(rt, granted(rt, second, two), 31) == Some(30));
-    assert!(rt; uses(rt, pool.try_get(rt), 22) == Some(21));
-    assert!(rt; (rung(one), rung(two), pool.idle(rt)) == (1, 1, 2));
 }
 
 // A wait that is given up leaves the line, and hands on what it was granted. A drain refuses who waits and who comes; one that
@@ -67,37 +94,107 @@ fn waits_are_given_up_and_the_pool_drains(rt: HostRuntime) {
 fn hands_on<R: Wait + Abort>(rt: &R, pool: &Pool<u64, Bell>, one: &Count, two: &Count) {
     let held = pool.try_get(rt);
     assert!(rt; end(rt, Some(pool.get())));
-    let first = waits(rt, pool.get(), one);
-    let second = waits(rt, pool.get(), one);
-    let third = waits(rt, pool.get(), two);
+    give_up(rt, held, (pool.get(), pool.get(), pool.get()), (one, two));
+    assert!(rt; pool.idle(rt) == 1);
+}
+
+// Of three who wait the second gives up while it waits, and the first once it was granted.
+fn give_up<R: Wait + Abort, L: End + DerefMut<Target = u64>, F: Waits<Bell, Result<L, Closed>>>(
+    rt: &R,
+    held: Option<L>,
+    callers: (F, F, F),
+    bells: (&Count, &Count),
+)
+    requires first { F.can_poll callers.0 }
+    requires second { F.can_poll callers.1 }
+    requires third { F.can_poll callers.2 }
+{
+    let (one, two) = bells;
+    let (first, second, third) = callers;
+    let first = waits(rt, first, one);
+    let second = waits(rt, second, one);
+    let third = waits(rt, third, two);
     assert!(rt; end(rt, second));
     assert!(rt; uses(rt, held, 20) == Some(10));
     assert!(rt; (rung(one), rung(two)) == (1, 0));
     assert!(rt; end(rt, first));
     assert!(rt; (rung(one), rung(two)) == (1, 1));
     assert!(rt; uses(rt, granted(rt, third, two), 30) == Some(20));
-    assert!(rt; pool.idle(rt) == 1);
 }
 
 fn drains<R: Wait + Abort>(rt: &R, pool: &Pool<u64, Bell>, one: &Count, two: &Count) {
     let held = pool.try_get(rt);
-    let first = waits(rt, pool.get(), one);
-    let second = waits(rt, pool.get(), one);
-    let ended = goes_on(rt, pool.drained(), two);
-    let drained = goes_on(rt, pool.drained(), two);
+    let callers = (pool.get(), pool.get());
+    wait_for_the_end(
+        rt,
+        pool,
+        held,
+        callers,
+        (pool.drained(), pool.drained()),
+        (one, two),
+    );
+    pool.drain(rt);
+    assert!(rt; gives(rt, Some(pool.drained()), two) == Some(()));
+    assert!(rt; (rung(one), rung(two)) == (2, 1));
+}
+
+// Two wait for a lease, of whom the first is granted one, and two for the end. Then the pool is drained.
+fn wait_for_the_end<
+    R: Wait + Abort,
+    L: End + DerefMut<Target = u64>,
+    F: Waits<Bell, Result<L, Closed>>,
+    D: Waits<Bell, ()>,
+>(
+    rt: &R,
+    pool: &Pool<u64, Bell>,
+    held: Option<L>,
+    callers: (F, F),
+    ends: (D, D),
+    bells: (&Count, &Count),
+)
+    requires first { F.can_poll callers.0 }
+    requires second { F.can_poll callers.1 }
+    requires ended { D.can_poll ends.0 }
+    requires drained { D.can_poll ends.1 }
+{
+    let (one, two) = bells;
+    let first = waits(rt, callers.0, one);
+    let second = waits(rt, callers.1, one);
+    let ended = goes_on(rt, ends.0, two);
+    let drained = goes_on(rt, ends.1, two);
     assert!(rt; uses(rt, held, 40) == Some(30));
     assert!(rt; (rung(one), rung(two), pool.is_draining(rt)) == (1, 0, false));
     pool.drain(rt);
     assert!(rt; (rung(one), rung(two), pool.is_draining(rt)) == (2, 0, true));
+    are_told(rt, pool, (first, second), (ended, drained), bells);
+}
+
+// Who was granted a lease has it, and its end is that of the drain. The other is refused, and so is who comes later.
+fn are_told<
+    R: Wait + Abort,
+    L: End + DerefMut<Target = u64>,
+    F: Waits<Bell, Result<L, Closed>>,
+    D: Waits<Bell, ()>,
+>(
+    rt: &R,
+    pool: &Pool<u64, Bell>,
+    callers: (Option<F>, Option<F>),
+    ends: (Option<D>, Option<D>),
+    bells: (&Count, &Count),
+)
+    requires first { IfSome callers.0 F.can_poll }
+    requires second { IfSome callers.1 F.can_poll }
+    requires drained { IfSome ends.1 D.can_poll }
+{
+    let (one, two) = bells;
+    let (first, second) = callers;
+    let (ended, drained) = ends;
     assert!(rt; hears(rt, second, one) && hears(rt, Some(pool.get()), one));
     assert!(rt; !end(rt, pool.try_get(rt)) && !pool.is_drained(rt));
     assert!(rt; end(rt, ended));
     assert!(rt; uses(rt, granted(rt, first, one), 50) == Some(40));
     assert!(rt; (rung(one), rung(two), pool.is_drained(rt)) == (2, 1, true));
     assert!(rt; gives(rt, drained, two) == Some(()));
-    pool.drain(rt);
-    assert!(rt; gives(rt, Some(pool.drained()), two) == Some(()));
-    assert!(rt; (rung(one), rung(two)) == (2, 1));
 }
 
 // The forms that own a share of the pool.
@@ -112,8 +209,23 @@ fn owns<R: Wait + Abort>(rt: &R, pool: &Arc<Pool<u64, Bell>>, bell: &Count) {
     let ten = share(rt, pool).try_get_owned(rt).expect(rt, "a lease");
     let eleven = granted(rt, Some(share(rt, pool).get_owned()), bell).expect(rt, "a lease");
     assert!(rt; (ten.slot(), eleven.slot()) == (0, 1));
-    let first = waits(rt, share(rt, pool).get_owned(), bell);
-    let drained = goes_on(rt, share(rt, pool).drained_owned(), bell);
+    let (caller, drained) = (share(rt, pool).get_owned(), share(rt, pool).drained_owned());
+    go_back(rt, &**pool, (ten, eleven), caller, drained, bell);
+}
+
+// Two leases come back, of which the first is granted to who has given up, and the second is the last of the drain.
+fn go_back<
+    R: Wait + Abort,
+    L: End + DerefMut<Target = u64>,
+    F: Waits<Bell, Result<L, Closed>>,
+    D: Waits<Bell, ()>,
+>(rt: &R, pool: &Pool<u64, Bell>, leases: (L, L), caller: F, drained: D, bell: &Count)
+    requires caller { F.can_poll caller }
+    requires drained { D.can_poll drained }
+{
+    let (ten, eleven) = leases;
+    let first = waits(rt, caller, bell);
+    let drained = goes_on(rt, drained, bell);
     assert!(rt; uses(rt, Some(ten), 20) == Some(10));
     assert!(rt; rung(bell) == 1);
     assert!(rt; end(rt, first));

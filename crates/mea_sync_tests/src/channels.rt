@@ -97,19 +97,35 @@ fn sends_that_wait(rt: HostRuntime) {
 fn pass_their_place_on<R: Wait + Abort>(
     rt: &R,
     sender: &BoundedSender<u64, Bell>,
-    mut receiver: BoundedReceiver<u64, Bell>,
+    receiver: BoundedReceiver<u64, Bell>,
     one: &Count,
     two: &Count,
 ) {
     assert!(rt; sender.try_send(rt, 7) == Ok(()));
-    let first = goes_on(rt, sender.send(8), one);
-    let second = goes_on(rt, sender.send(9), two);
+    let sends = (sender.send(8), sender.send(9), sender.send(10));
+    wait_for_a_place(rt, receiver, sends, (one, two));
+}
+
+fn wait_for_a_place<R: Wait + Abort, F: Waits<Bell, Result<(), SendError<u64>>>>(
+    rt: &R,
+    mut receiver: BoundedReceiver<u64, Bell>,
+    sends: (F, F, F),
+    bells: (&Count, &Count),
+)
+    requires first { F.can_poll sends.0 }
+    requires second { F.can_poll sends.1 }
+    requires third { F.can_poll sends.2 }
+{
+    let (one, two) = bells;
+    let (first, second, third) = sends;
+    let first = goes_on(rt, first, one);
+    let second = goes_on(rt, second, two);
     assert!(rt; receiver.try_recv(rt) == Ok(7));
     assert!(rt; (rung(one), rung(two)) == (1, 0));
     assert!(rt; end(rt, first));
     assert!(rt; (rung(one), rung(two)) == (1, 1));
     assert!(rt; gives(rt, second, two) == Some(Ok(())));
-    let third = goes_on(rt, sender.send(10), two);
+    let third = goes_on(rt, third, two);
     receiver.end(rt);
     assert!(rt; rung(two) == 2);
     assert!(rt; gives(rt, third, two) == Some(Err(SendError(10))));

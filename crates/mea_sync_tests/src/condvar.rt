@@ -1,7 +1,10 @@
+ghost use Rattle.std.specs.Prelude.{IfSome};
+
 use crate::guards::{bell, finds, sets, share};
 use mea_sync::condvar::{Condvar, CondvarWait};
 use mea_sync::mutex::Mutex;
 use mea_test_support::{Bell, Count, end, gives, pends, rung};
+use mea_wait::{End, Waits};
 use std::process::Abort;
 use std::sync::{Arc, Wait};
 
@@ -39,13 +42,26 @@ fn is_notified<R: Wait + Abort>(
 ) {
     let first = waits(rt, condvar, mutex, one);
     let second = waits(rt, condvar, mutex, two);
+    passes_that_on(rt, condvar, (first, second), (one, two));
+    assert!(rt; end(rt, mutex.try_lock(rt)));
+}
+
+fn passes_that_on<R: Wait + Abort, G: End, F: Waits<Bell, G>>(
+    rt: &R,
+    condvar: &Condvar<Bell>,
+    waiting: (Option<F>, Option<F>),
+    bells: (&Count, &Count),
+)
+    requires { IfSome waiting.1 F.can_poll }
+{
+    let (one, two) = bells;
+    let (first, second) = waiting;
     condvar.notify_one(rt);
     assert!(rt; (rung(one), rung(two)) == (1, 0));
     // The first is abandoned: what was for it alone goes to the second.
     assert!(rt; end(rt, first));
     assert!(rt; rung(two) == 1);
     assert!(rt; end(rt, gives(rt, second, two)));
-    assert!(rt; end(rt, mutex.try_lock(rt)));
 }
 
 // A wait with a condition goes on until it does not hold.

@@ -1,6 +1,8 @@
 use crate::guards::{bell, finds, sets, share, shows};
 use mea_sync::mutex::Mutex;
 use mea_test_support::{Bell, Count, end, gives, pends, rung};
+use mea_wait::{End, Waits};
+use std::ops::DerefMut;
 use std::process::Abort;
 use std::sync::{Arc, Wait};
 
@@ -27,8 +29,22 @@ fn a_mutex_is_handed_on(rt: HostRuntime) {
 fn is_handed_on<R: Wait + Abort>(rt: &R, mutex: &Mutex<u64, Bell>, one: &Count, two: &Count) {
     let guard = mutex.try_lock(rt);
     assert!(rt; !is_free(rt, mutex));
-    let first = pends(rt, mutex.lock(), one);
-    let second = pends(rt, mutex.lock(), two);
+    goes_to_the_first(rt, guard, (mutex.lock(), mutex.lock()), (one, two));
+}
+
+fn goes_to_the_first<R: Wait + Abort, G: End + DerefMut<Target = u64>, F: Waits<Bell, G>>(
+    rt: &R,
+    guard: Option<G>,
+    callers: (F, F),
+    bells: (&Count, &Count),
+)
+    requires first { F.can_poll callers.0 }
+    requires second { F.can_poll callers.1 }
+{
+    let (one, two) = bells;
+    let (first, second) = callers;
+    let first = pends(rt, first, one);
+    let second = pends(rt, second, two);
     assert!(rt; sets(rt, guard, 7));
     assert!(rt; (rung(one), rung(two)) == (1, 0));
     // The first is abandoned once it was granted: the second has its turn.

@@ -1,8 +1,9 @@
 use crate::guards::{bell, sets, share, shows};
 use mea_sync::rwlock::{RwLock, RwLockReadGuard, RwLockWriteGuard};
 use mea_test_support::{Bell, Count, end, found, gives, pends, rung};
-use mea_wait::End;
+use mea_wait::{End, Waits};
 use std::num::NonZeroUsize;
+use std::ops::DerefMut;
 use std::process::Abort;
 use std::sync::{Arc, Wait};
 
@@ -25,17 +26,40 @@ fn are_let_in<R: Wait + Abort>(rt: &R, lock: &RwLock<u64, Bell>, one: &Count, tw
     let first = found(lock.try_read(rt));
     let second = gives(rt, Some(lock.read()), one);
     assert!(rt; !end(rt, lock.try_write(rt)));
-    let write = pends(rt, lock.write(), one);
-    let third = pends(rt, lock.read(), two);
+    let (write, third) = once_they_ended(
+        rt,
+        (first, second),
+        lock.write(),
+        lock.read(),
+        (one, two),
+    );
+    // The write becomes a read, and the read behind it is let in.
+    let read = becomes_read(rt, write, 9);
+    assert!(rt; rung(two) == 1);
+    assert!(rt; shows(rt, read) == Some(9));
+    assert!(rt; end(rt, third));
+}
+
+// A write that waits for two reads, and the read that waits behind it.
+fn once_they_ended<R: Wait + Abort, G: End, F: Waits<Bell, G>, V: End, W: Waits<Bell, V>>(
+    rt: &R,
+    reads: (Option<G>, Option<G>),
+    write: W,
+    third: F,
+    bells: (&Count, &Count),
+) -> (Option<V>, Option<F>)
+    requires write { W.can_poll write }
+    requires third { F.can_poll third }
+{
+    let (one, two) = bells;
+    let (first, second) = reads;
+    let write = pends(rt, write, one);
+    let third = pends(rt, third, two);
     assert!(rt; end(rt, first));
     assert!(rt; rung(one) == 0);
     assert!(rt; end(rt, second));
     assert!(rt; (rung(one), rung(two)) == (1, 0));
-    // The write becomes a read, and the read behind it is let in.
-    let read = becomes_read(rt, gives(rt, write, one), 9);
-    assert!(rt; rung(two) == 1);
-    assert!(rt; shows(rt, read) == Some(9));
-    assert!(rt; end(rt, third));
+    (gives(rt, write, one), third)
 }
 
 // Writes, and goes on as a read.
@@ -75,15 +99,43 @@ fn are_owned<R: Wait + Abort>(rt: &R, lock: &Arc<RwLock<u64, Bell>>, bell: &Coun
 
 fn let_the_next_in<R: Wait + Abort>(rt: &R, lock: &RwLock<u64, Bell>, one: &Count, two: &Count) {
     let held = found(lock.try_read(rt));
-    let write = pends(rt, lock.write(), one);
-    let read = pends(rt, lock.read(), two);
+    a_write_gives_up(rt, held, lock.write(), lock.read(), (one, two));
+    let held = lock.try_write(rt);
+    a_read_gives_up(rt, held, lock.read(), lock.write(), (one, two));
+}
+
+fn a_write_gives_up<R: Wait + Abort, G: End, F: Waits<Bell, G>, V: End, W: Waits<Bell, V>>(
+    rt: &R,
+    held: Option<G>,
+    write: W,
+    read: F,
+    bells: (&Count, &Count),
+)
+    requires write { W.can_poll write }
+    requires read { F.can_poll read }
+{
+    let (one, two) = bells;
+    let write = pends(rt, write, one);
+    let read = pends(rt, read, two);
     assert!(rt; end(rt, write));
     assert!(rt; (rung(one), rung(two)) == (0, 1));
     assert!(rt; end(rt, gives(rt, read, two)));
     assert!(rt; end(rt, held));
-    let held = lock.try_write(rt);
-    let read = pends(rt, lock.read(), two);
-    let write = pends(rt, lock.write(), one);
+}
+
+fn a_read_gives_up<
+    R: Wait + Abort,
+    G: End,
+    F: Waits<Bell, G>,
+    V: End + DerefMut<Target = u64>,
+    W: Waits<Bell, V>,
+>(rt: &R, held: Option<V>, read: F, write: W, bells: (&Count, &Count))
+    requires read { F.can_poll read }
+    requires write { W.can_poll write }
+{
+    let (one, two) = bells;
+    let read = pends(rt, read, two);
+    let write = pends(rt, write, one);
     assert!(rt; end(rt, held));
     assert!(rt; (rung(one), rung(two)) == (0, 2));
     assert!(rt; end(rt, read));

@@ -97,8 +97,23 @@ fn waits_of_a_semaphore(rt: HostRuntime) {
 }
 
 fn wakes_the_first<R: Wait + Abort>(rt: &R, semaphore: &Semaphore<Bell>, one: &Count, two: &Count) {
-    let first = waits(rt, semaphore.acquire(1), one);
-    let second = waits(rt, semaphore.acquire(1), two);
+    let callers = (semaphore.acquire(1), semaphore.acquire(1));
+    wakes_one_after_the_other(rt, semaphore, callers, (one, two));
+}
+
+fn wakes_one_after_the_other<R: Wait + Abort, F: Waits<Bell, Result<P, Closed>>, P: End>(
+    rt: &R,
+    semaphore: &Semaphore<Bell>,
+    callers: (F, F),
+    bells: (&Count, &Count),
+)
+    requires first { F.can_poll callers.0 }
+    requires second { F.can_poll callers.1 }
+{
+    let (one, two) = bells;
+    let (first, second) = callers;
+    let first = waits(rt, first, one);
+    let second = waits(rt, second, two);
     assert!(rt; semaphore.release(rt, 1) == Ok(()));
     assert!(rt; (rung(one), rung(two)) == (1, 0));
     let permit = match gives(rt, first, one) {
@@ -113,8 +128,23 @@ fn wakes_the_first<R: Wait + Abort>(rt: &R, semaphore: &Semaphore<Bell>, one: &C
 }
 
 fn pays_the_next<R: Wait + Abort>(rt: &R, semaphore: &Semaphore<Bell>, one: &Count, two: &Count) {
-    let first = waits(rt, semaphore.acquire(3), one);
-    let second = waits(rt, semaphore.acquire(2), two);
+    let callers = (semaphore.acquire(3), semaphore.acquire(2));
+    pays_who_is_left(rt, semaphore, callers, (one, two));
+}
+
+fn pays_who_is_left<R: Wait + Abort, F: Waits<Bell, Result<P, Closed>>, P: End>(
+    rt: &R,
+    semaphore: &Semaphore<Bell>,
+    callers: (F, F),
+    bells: (&Count, &Count),
+)
+    requires first { F.can_poll callers.0 }
+    requires second { F.can_poll callers.1 }
+{
+    let (one, two) = bells;
+    let (first, second) = callers;
+    let first = waits(rt, first, one);
+    let second = waits(rt, second, two);
     assert!(rt; rung(two) == 0);
     assert!(rt; end(rt, first));
     assert!(rt; (rung(one), rung(two)) == (0, 1));
