@@ -1,4 +1,4 @@
-use crate::play::gone;
+use crate::halls::play::gone;
 use mea_events::{Event, Replies, SemEvent};
 use mea_family::{Answer, Stop};
 use mea_hall::{Hall, Played, replay};

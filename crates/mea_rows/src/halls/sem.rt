@@ -1,4 +1,4 @@
-use crate::play::{Hall, Lent, NOTHING, Row, Script, answers, check_scripts, gone, refused};
+use crate::halls::play::{Hall, Lent, NOTHING, Row, Script, answers, check_scripts, gone, refused};
 use mea_family::{Answer, Ledger, Stop};
 use mea_sem::{SemEvent, SemHall};
 use std::alloc::Global;

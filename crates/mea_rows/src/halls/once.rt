@@ -1,4 +1,4 @@
-use crate::play::{Lends, Lent, NOTHING, Row, Script, check_scripts};
+use crate::halls::play::{Lends, Lent, NOTHING, Row, Script, check_scripts};
 use mea_family::{Answer, Stop};
 use mea_once::{OnceEvent, OnceFamily, OnceHall};
 

@@ -1,4 +1,4 @@
-use crate::play::{Hall, Lends, Lent, NOTHING, Row, Script, answers, check_scripts, gone, refused};
+use crate::halls::play::{Hall, Lends, Lent, NOTHING, Row, Script, answers, check_scripts, gone, refused};
 use mea_family::{Answer, Stop};
 use mea_meet::{MeetEvent, MeetFamily, MeetHall};
 
