@@ -1,5 +1,7 @@
-use crate::play::Reply::{Count, Done, Gone, Leased, Made, No, Pending, Ready, Two, Unknown, Yes};
-use crate::play::{Call, Reply, Room};
+use crate::pool::play::Reply::{
+    Count, Done, Gone, Leased, Made, No, Pending, Ready, Two, Unknown, Yes,
+};
+use crate::pool::play::{Call, Reply, Room};
 use mea_test_support::differs_at;
 use std::process::Abort;
 

@@ -1,4 +1,5 @@
-use crate::leases::{bell, pool};
+use crate::guards::bell;
+use crate::pool::leases::pool;
 use mea_shared_pool::{Closed, Pool};
 use mea_test_support::{Bell, Count, polled_for};
 use mea_wait::End;

@@ -1,13 +1,12 @@
 ghost use Rattle.std.specs.Prelude.{Some, None, refl};
 
-use crate::guards::shows;
+use crate::guards::{shows, swaps};
 use mea_lock_core::Part;
 use mea_sync::Shows;
 use mea_sync::mutex::Mutex;
 use mea_sync::rwlock::{Mapped, MappedRwLockReadGuard, MappedRwLockWriteGuard, RwLock};
 use mea_test_support::{Bell, end, found};
 use mea_wait::End;
-use std::ops::DerefMut;
 use std::process::Abort;
 use std::sync::Wait;
 
@@ -18,7 +17,7 @@ type Pair = (u64, u64);
 struct First;
 
 impl Part<Pair> for First {
-    ghost use Rattle.mea_sync_tests.specs.First.{same_value};
+    ghost use Rattle.mea_tests.specs.First.{same_value};
 
     type Out = u64;
 
@@ -48,19 +47,6 @@ impl Part<Pair> for First {
 // A guard, if there is one, that shows the first.
 fn first_of<G: Shows<Pair>>(guard: Option<G>) -> Option<Mapped<Pair, G, First>> {
     Some(Mapped::map(guard?, First))
-}
-
-// What a guard has shown that writes this value, and is ended.
-fn swaps<R: Wait, G: End + DerefMut<Target = u64>>(
-    rt: &R,
-    guard: Option<G>,
-    value: u64,
-) -> Option<u64> {
-    let mut guard = guard?;
-    let before = *guard;
-    *guard = value;
-    guard.end(rt);
-    Some(before)
 }
 
 // A mapped guard of a mutex writes a part, and the rest stays.

@@ -1,6 +1,7 @@
 ghost use Rattle.std.specs.Prelude.{IfSome};
 
-use crate::leases::{bell, granted, hears, pool, share, uses, waits};
+use crate::guards::{bell, granted, hears, share, swaps, waits};
+use crate::pool::leases::pool;
 use mea_shared_pool::{Closed, Pool};
 use mea_test_support::{Bell, Count, end, gives, goes_on, rung};
 use mea_wait::{End, Waits};
@@ -48,7 +49,7 @@ fn go_in_order<R: Wait + Abort>(rt: &R, pool: &Pool<u64, Bell>, one: &Count, two
         (pool.get(), pool.get()),
         (one, two),
     );
-    assert!(rt; uses(rt, pool.try_get(rt), 22) == Some(21));
+    assert!(rt; swaps(rt, pool.try_get(rt), 22) == Some(21));
     assert!(rt; (rung(one), rung(two), pool.idle(rt)) == (1, 1, 2));
 }
 
@@ -68,13 +69,13 @@ fn come_back<R: Wait + Abort, L: End + DerefMut<Target = u64>, F: Waits<Bell, Re
     let (first, second) = callers;
     let first = waits(rt, first, one);
     let second = waits(rt, second, two);
-    assert!(rt; uses(rt, ten, 20) == Some(10));
+    assert!(rt; swaps(rt, ten, 20) == Some(10));
     assert!(rt; (rung(one), rung(two), pool.idle(rt)) == (1, 0, 1));
     assert!(rt; !end(rt, pool.try_get(rt)));
-    assert!(rt; uses(rt, granted(rt, first, one), 30) == Some(20));
+    assert!(rt; swaps(rt, granted(rt, first, one), 30) == Some(20));
     assert!(rt; (rung(one), rung(two)) == (1, 1));
-    assert!(rt; uses(rt, eleven, 21) == Some(11));
-    assert!(rt; uses(rt, granted(rt, second, two), 31) == Some(30));
+    assert!(rt; swaps(rt, eleven, 21) == Some(11));
+    assert!(rt; swaps(rt, granted(rt, second, two), 31) == Some(30));
 }
 
 // A wait that is given up leaves the line, and hands on what it was granted. A drain refuses who waits and who comes; one that
@@ -115,11 +116,11 @@ fn give_up<R: Wait + Abort, L: End + DerefMut<Target = u64>, F: Waits<Bell, Resu
     let second = waits(rt, second, one);
     let third = waits(rt, third, two);
     assert!(rt; end(rt, second));
-    assert!(rt; uses(rt, held, 20) == Some(10));
+    assert!(rt; swaps(rt, held, 20) == Some(10));
     assert!(rt; (rung(one), rung(two)) == (1, 0));
     assert!(rt; end(rt, first));
     assert!(rt; (rung(one), rung(two)) == (1, 1));
-    assert!(rt; uses(rt, granted(rt, third, two), 30) == Some(20));
+    assert!(rt; swaps(rt, granted(rt, third, two), 30) == Some(20));
 }
 
 fn drains<R: Wait + Abort>(rt: &R, pool: &Pool<u64, Bell>, one: &Count, two: &Count) {
@@ -162,7 +163,7 @@ fn wait_for_the_end<
     let second = waits(rt, callers.1, one);
     let ended = goes_on(rt, ends.0, two);
     let drained = goes_on(rt, ends.1, two);
-    assert!(rt; uses(rt, held, 40) == Some(30));
+    assert!(rt; swaps(rt, held, 40) == Some(30));
     assert!(rt; (rung(one), rung(two), pool.is_draining(rt)) == (1, 0, false));
     pool.drain(rt);
     assert!(rt; (rung(one), rung(two), pool.is_draining(rt)) == (2, 0, true));
@@ -192,7 +193,7 @@ fn are_told<
     assert!(rt; hears(rt, second, one) && hears(rt, Some(pool.get()), one));
     assert!(rt; !end(rt, pool.try_get(rt)) && !pool.is_drained(rt));
     assert!(rt; end(rt, ended));
-    assert!(rt; uses(rt, granted(rt, first, one), 50) == Some(40));
+    assert!(rt; swaps(rt, granted(rt, first, one), 50) == Some(40));
     assert!(rt; (rung(one), rung(two), pool.is_drained(rt)) == (2, 1, true));
     assert!(rt; gives(rt, drained, two) == Some(()));
 }
@@ -226,12 +227,12 @@ fn go_back<
     let (ten, eleven) = leases;
     let first = waits(rt, caller, bell);
     let drained = goes_on(rt, drained, bell);
-    assert!(rt; uses(rt, Some(ten), 20) == Some(10));
+    assert!(rt; swaps(rt, Some(ten), 20) == Some(10));
     assert!(rt; rung(bell) == 1);
     assert!(rt; end(rt, first));
     pool.drain(rt);
     assert!(rt; rung(bell) == 1);
-    assert!(rt; uses(rt, Some(eleven), 21) == Some(11));
+    assert!(rt; swaps(rt, Some(eleven), 21) == Some(11));
     assert!(rt; rung(bell) == 2);
     assert!(rt; gives(rt, drained, bell) == Some(()));
 }

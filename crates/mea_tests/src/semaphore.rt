@@ -1,67 +1,11 @@
-ghost use Rattle.std.specs.Prelude.{IfSome};
-
-use crate::guards::{bell, share};
+use crate::guards::{bell, granted, hears, share, waits};
 use crate::merging::merged;
 use mea_base::Overflow;
 use mea_sync::semaphore::{Closed, Semaphore, SemaphorePermit};
-use mea_test_support::{Bell, Count, PollOutcome, end, found, gives, poll, rung};
+use mea_test_support::{Bell, Count, end, found, gives, rung};
 use mea_wait::{End, Waits};
 use std::process::Abort;
 use std::sync::{Arc, Wait};
-
-// Polls an acquire that is to wait, and hands it back.
-fn waits<R: Wait, F: Waits<Bell, Result<P, Closed>>, P: End>(
-    rt: &R,
-    wait: F,
-    count: &Count,
-) -> Option<F>
-    requires { F.can_poll wait }
-    ensures { IfSome result F.can_poll }
-{
-    match poll(rt, wait, count) {
-        PollOutcome::Ready(Ok(permit)) => {
-            permit.end(rt);
-            None
-        }
-        PollOutcome::Ready(Err(Closed)) | PollOutcome::Refused => None,
-        PollOutcome::Pending(wait) => Some(wait),
-    }
-}
-
-// Whether an acquire is granted. Its permit is ended.
-fn is_granted<R: Wait, F: Waits<Bell, Result<P, Closed>>, P: End>(
-    rt: &R,
-    wait: Option<F>,
-    count: &Count,
-) -> bool
-    requires { IfSome wait F.can_poll }
-{
-    match gives(rt, wait, count) {
-        Some(Ok(permit)) => {
-            permit.end(rt);
-            true
-        }
-        Some(Err(Closed)) | None => false,
-    }
-}
-
-// Whether an acquire hears that the semaphore was closed.
-fn hears<R: Wait, F: Waits<Bell, Result<P, Closed>>, P: End>(
-    rt: &R,
-    wait: Option<F>,
-    count: &Count,
-) -> bool
-    requires { IfSome wait F.can_poll }
-{
-    match gives(rt, wait, count) {
-        Some(Ok(permit)) => {
-            permit.end(rt);
-            false
-        }
-        Some(Err(Closed)) => true,
-        None => false,
-    }
-}
 
 // Whether a wait for permits to be forgotten is ready at once; else it is ended.
 fn forgets<R: Wait, F: Waits<Bell, Result<(), Closed>>>(rt: &R, wait: F, count: &Count) -> bool
@@ -116,14 +60,11 @@ fn wakes_one_after_the_other<R: Wait + Abort, F: Waits<Bell, Result<P, Closed>>,
     let second = waits(rt, second, two);
     assert!(rt; semaphore.release(rt, 1) == Ok(()));
     assert!(rt; (rung(one), rung(two)) == (1, 0));
-    let permit = match gives(rt, first, one) {
-        Some(granted) => granted.ok(),
-        None => None,
-    };
+    let permit = granted(rt, first, one);
     assert!(rt; has_free(rt, semaphore, 0));
     assert!(rt; end(rt, permit));
     assert!(rt; (rung(one), rung(two)) == (1, 1));
-    assert!(rt; is_granted(rt, second, two));
+    assert!(rt; end(rt, granted(rt, second, two)));
     assert!(rt; has_free(rt, semaphore, 1));
 }
 
@@ -148,7 +89,7 @@ fn pays_who_is_left<R: Wait + Abort, F: Waits<Bell, Result<P, Closed>>, P: End>(
     assert!(rt; rung(two) == 0);
     assert!(rt; end(rt, first));
     assert!(rt; (rung(one), rung(two)) == (0, 1));
-    assert!(rt; is_granted(rt, second, two));
+    assert!(rt; end(rt, granted(rt, second, two)));
     assert!(rt; has_free(rt, semaphore, 2));
 }
 
@@ -236,7 +177,12 @@ fn owns<R: Wait + Abort>(rt: &R, semaphore: &Arc<Semaphore<Bell>>, bell: &Count)
     assert!(rt; has_free(rt, semaphore, 2));
     permit.end(rt);
     assert!(rt; has_free(rt, semaphore, 4));
-    assert!(rt; is_granted(rt, Some(share(rt, semaphore).acquire_owned(2)), bell));
+    assert!(rt;
+        end(
+            rt,
+            granted(rt, Some(share(rt, semaphore).acquire_owned(2)), bell)
+        )
+    );
 }
 
 fn forgetting<R: Wait + Abort>(rt: &R, semaphore: &Arc<Semaphore<Bell>>, bell: &Count) {
