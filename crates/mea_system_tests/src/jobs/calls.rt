@@ -1,9 +1,9 @@
-use crate::play::Reply::{
+use crate::jobs::play::Reply::{
     Counted, Done, Full, Nothing, Pair, Pending, Queued, Ready, Running, Starts, Stopped, Unknown,
     Value,
 };
-use crate::play::Step::{Back, Count, Finish, Job, Poll, Recall, Stop, Take, Wake};
-use crate::play::{Reply, Room, Step};
+use crate::jobs::play::Step::{Back, Count, Finish, Job, Poll, Recall, Stop, Take, Wake};
+use crate::jobs::play::{Reply, Room, Step};
 use mea_test_support::differs_at;
 
 // One permit, two queued jobs, one result: who is full, who starts, and who is woken at the end.
