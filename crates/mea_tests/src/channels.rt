@@ -2,7 +2,7 @@ use crate::guards::bell;
 use mea_link::broadcast::overflow::{self, RecvError};
 use mea_link::mpsc::{
     BoundedReceiver, BoundedSender, RecvError as Ended, SendError, TryRecvError, TrySendError,
-    UnboundedError, UnboundedReceiver, UnboundedSender, bounded, unbounded,
+    UnboundedError, UnboundedSender, bounded, unbounded,
 };
 use mea_test_support::{Bell, Count, end, gives, goes_on, rung};
 use mea_wait::{End, Waits};
@@ -16,22 +16,25 @@ fn a_bounded_channel(rt: HostRuntime) {
     let one = bell(&rt);
     let two = bell(&rt);
     let (sender, mut receiver) = bounded(rt.alloc(), 1).expect(&rt, "memory");
-    keeps_a_send_waiting(&rt, &sender, &mut receiver, &one);
+    keeps_a_send_waiting(&rt, &sender, sender.send(9), &mut receiver, &one);
     let last: BoundedSender<u64, Bell> = sender.clone_handle(&rt).expect(&rt, "memory");
     sender.end(&rt);
     hears_the_last(&rt, last, receiver.recv(), &two, Ended::Disconnected);
     receiver.end(&rt);
 }
 
-fn keeps_a_send_waiting<R: Wait + Abort>(
+fn keeps_a_send_waiting<R: Wait + Abort, F: Waits<Bell, Result<(), SendError<u64>>>>(
     rt: &R,
     sender: &BoundedSender<u64, Bell>,
+    send: F,
     receiver: &mut BoundedReceiver<u64, Bell>,
     bell: &Count,
-) {
+)
+    requires { F.can_poll send }
+{
     assert!(rt; sender.try_send(rt, 7) == Ok(()));
     assert!(rt; sender.try_send(rt, 8) == Err(TrySendError::Full(8)));
-    let send = goes_on(rt, sender.send(9), bell);
+    let send = goes_on(rt, send, bell);
     assert!(rt; receiver.try_recv(rt) == Ok(7));
     assert!(rt; rung(bell) == 1);
     assert!(rt; gives(rt, send, bell) == Some(Ok(())));
@@ -46,7 +49,7 @@ fn an_unbounded_channel(rt: HostRuntime) {
     let one = bell(&rt);
     let two = bell(&rt);
     let (sender, mut receiver) = unbounded(rt.alloc()).expect(&rt, "memory");
-    wakes_its_receiver(&rt, &sender, &mut receiver, &one);
+    wakes_its_receiver(&rt, &sender, receiver.recv(), &one);
     let last: UnboundedSender<u64, Bell> = sender.clone_handle(&rt).expect(&rt, "memory");
     sender.end(&rt);
     hears_the_last(&rt, last, receiver.recv(), &two, Ended::Disconnected);
@@ -54,13 +57,15 @@ fn an_unbounded_channel(rt: HostRuntime) {
     receiver.end(&rt);
 }
 
-fn wakes_its_receiver<R: Wait + Abort>(
+fn wakes_its_receiver<R: Wait + Abort, F: Waits<Bell, Result<u64, Ended>>>(
     rt: &R,
     sender: &UnboundedSender<u64, Bell>,
-    receiver: &mut UnboundedReceiver<u64, Bell>,
+    recv: F,
     bell: &Count,
-) {
-    let recv = goes_on(rt, receiver.recv(), bell);
+)
+    requires { F.can_poll recv }
+{
+    let recv = goes_on(rt, recv, bell);
     assert!(rt; sender.send(rt, 5).is_ok());
     assert!(rt; rung(bell) == 1);
     assert!(rt; gives(rt, recv, bell) == Some(Ok(5)));

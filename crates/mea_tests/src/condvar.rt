@@ -5,6 +5,7 @@ use mea_sync::condvar::{Condvar, CondvarWait};
 use mea_sync::mutex::Mutex;
 use mea_test_support::{Bell, Count, end, gives, pends, rung};
 use mea_wait::{End, Waits};
+use std::ops::Deref;
 use std::process::Abort;
 use std::sync::{Arc, Wait};
 
@@ -29,23 +30,20 @@ fn waits_are_notified(rt: HostRuntime) {
     let first = Mutex::new(rt.alloc(), 1);
     let second = Mutex::new(rt.alloc(), 2);
     let condvar = Condvar::new(rt.alloc());
-    is_notified(&rt, &condvar, &first, &one, &two);
-    keep_their_mutex(&rt, &condvar, &first, &second, &three);
+    let waiting = (
+        waits(&rt, &condvar, &first, &one),
+        waits(&rt, &condvar, &first, &two),
+    );
+    passes_that_on(&rt, &condvar, waiting, (&one, &two));
+    assert!(rt; end(&rt, first.try_lock(&rt)));
+    let waiting = (
+        waits(&rt, &condvar, &first, &three),
+        waits(&rt, &condvar, &second, &three),
+    );
+    keep_their_mutex(&rt, &condvar, waiting, &three);
 }
 
-fn is_notified<R: Wait + Abort>(
-    rt: &R,
-    condvar: &Condvar<Bell>,
-    mutex: &Mutex<u64, Bell>,
-    one: &Count,
-    two: &Count,
-) {
-    let first = waits(rt, condvar, mutex, one);
-    let second = waits(rt, condvar, mutex, two);
-    passes_that_on(rt, condvar, (first, second), (one, two));
-    assert!(rt; end(rt, mutex.try_lock(rt)));
-}
-
+// Of two that wait the first is notified, and abandoned then: what was for it alone goes to the second.
 fn passes_that_on<R: Wait + Abort, G: End, F: Waits<Bell, G>>(
     rt: &R,
     condvar: &Condvar<Bell>,
@@ -58,7 +56,6 @@ fn passes_that_on<R: Wait + Abort, G: End, F: Waits<Bell, G>>(
     let (first, second) = waiting;
     condvar.notify_one(rt);
     assert!(rt; (rung(one), rung(two)) == (1, 0));
-    // The first is abandoned: what was for it alone goes to the second.
     assert!(rt; end(rt, first));
     assert!(rt; rung(two) == 1);
     assert!(rt; end(rt, gives(rt, second, two)));
@@ -70,19 +67,22 @@ fn a_wait_goes_on_while_its_condition_holds(rt: HostRuntime) {
     let bell = bell(&rt);
     let mutex = Arc::new(rt.alloc(), Mutex::new(rt.alloc(), 0)).expect(&rt, "memory");
     let condvar = Condvar::new(rt.alloc());
-    goes_on_while_it_holds(&rt, &condvar, &mutex, &bell);
+    let guard = share(&rt, &mutex)
+        .try_lock_owned(&rt)
+        .expect(&rt, "a free lock");
+    let wait = condvar.wait_while_owned(guard, |value: &mut u64| *value < 2);
+    goes_on_while_it_holds(&rt, &condvar, &*mutex, wait, &bell);
 }
 
-fn goes_on_while_it_holds<R: Wait + Abort>(
+fn goes_on_while_it_holds<R: Wait + Abort, G: End + Deref<Target = u64>, F: Waits<Bell, G>>(
     rt: &R,
     condvar: &Condvar<Bell>,
-    mutex: &Arc<Mutex<u64, Bell>>,
+    mutex: &Mutex<u64, Bell>,
+    wait: F,
     bell: &Count,
-) {
-    let guard = share(rt, mutex)
-        .try_lock_owned(rt)
-        .expect(rt, "a free lock");
-    let wait = condvar.wait_while_owned(guard, |value: &mut u64| *value < 2);
+)
+    requires { F.can_poll wait }
+{
     let wait = pends(rt, wait, bell).expect(rt, "a wait");
     condvar.notify_all(rt);
     assert!(rt; rung(bell) == 1);
@@ -93,15 +93,16 @@ fn goes_on_while_it_holds<R: Wait + Abort>(
     assert!(rt; finds(rt, wait, bell) == Some(2));
 }
 
-fn keep_their_mutex<R: Wait + Abort>(
+fn keep_their_mutex<R: Wait + Abort, G: End + Deref<Target = u64>, F: Waits<Bell, G>>(
     rt: &R,
     condvar: &Condvar<Bell>,
-    first: &Mutex<u64, Bell>,
-    second: &Mutex<u64, Bell>,
+    waiting: (Option<F>, Option<F>),
     bell: &Count,
-) {
-    let one = waits(rt, condvar, first, bell);
-    let two = waits(rt, condvar, second, bell);
+)
+    requires first { IfSome waiting.0 F.can_poll }
+    requires second { IfSome waiting.1 F.can_poll }
+{
+    let (one, two) = waiting;
     condvar.notify_all(rt);
     assert!(rt; rung(bell) == 2);
     assert!(rt; finds(rt, two, bell) == Some(2));

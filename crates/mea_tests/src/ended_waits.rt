@@ -4,7 +4,7 @@ use mea_base::Poll;
 use mea_link::barrier::Barrier;
 use mea_link::broadcast::overflow;
 use mea_link::latch::Latch;
-use mea_link::shutdown::{ShutdownRecv, ShutdownSend, new_pair};
+use mea_link::shutdown::{ShutdownSend, new_pair};
 use mea_link::waitgroup::WaitGroup;
 use mea_meet_core::{BarrierCore, BarrierWait};
 use mea_meet_seats::{CountSeats, Seat, withdraw_from};
@@ -121,20 +121,22 @@ fn a_million_waits_for_a_shutdown(rt: HostRuntime) {
         assert!(rt; comes_and_goes(&rt, receiver.is_shutdown(), &bell));
     }
     assert!(rt; Arc::strong_count(&bell) == 1);
-    one_waits_for_a_shutdown(&rt, &sender, &receiver, &bell);
+    one_waits_for_a_shutdown(&rt, &sender, receiver.is_shutdown(), &bell);
     assert!(rt; comes_and_goes(&rt, sender.await_shutdown(), &bell));
     assert!(rt; Arc::strong_count(&bell) == 1);
     receiver.end(&rt);
     assert!(rt; rung(&bell) == 1);
 }
 
-fn one_waits_for_a_shutdown<R: Wait + Abort>(
+fn one_waits_for_a_shutdown<R: Wait + Abort, F: Waits<Bell, ()>>(
     rt: &R,
     sender: &ShutdownSend<Bell>,
-    receiver: &ShutdownRecv<Bell>,
+    signal: F,
     bell: &Count,
-) {
-    let signal = goes_on(rt, receiver.is_shutdown(), bell);
+)
+    requires { F.can_poll signal }
+{
+    let signal = goes_on(rt, signal, bell);
     assert!(rt; Arc::strong_count(bell) == 2);
     sender.shutdown(rt);
     assert!(rt; rung(bell) == 1);
@@ -172,15 +174,29 @@ fn a_message_comes<R: Wait + Abort>(
 fn only_those_who_wait_are_woken(rt: HostRuntime) {
     let bell = bell(&rt);
     let latch = Latch::new(rt.alloc(), 3);
-    one_of_three_is_woken(&rt, &latch, &bell);
+    let waits = (latch.wait(), latch.wait(), latch.wait());
+    one_of_three_is_woken(&rt, &latch, waits, &bell);
     let group = WaitGroup::new(rt.alloc()).expect(&rt, "memory");
-    nobody_else_is_woken(&rt, group, &bell);
+    let second = group.clone_handle(&rt).ok();
+    let wait = group.into_future(&rt);
+    let copy = wait.clone_wait().expect(&rt, "memory");
+    nobody_else_is_woken(&rt, second, wait, copy, &bell);
 }
 
-fn one_of_three_is_woken<R: Wait + Abort>(rt: &R, latch: &Latch<Bell>, bell: &Count) {
-    assert!(rt; comes_and_goes(rt, latch.wait(), bell));
-    let other = goes_on(rt, latch.wait(), bell);
-    assert!(rt; comes_and_goes(rt, latch.wait(), bell));
+fn one_of_three_is_woken<R: Wait + Abort, F: Waits<Bell, ()>>(
+    rt: &R,
+    latch: &Latch<Bell>,
+    waits: (F, F, F),
+    bell: &Count,
+)
+    requires first { F.can_poll waits.0 }
+    requires other { F.can_poll waits.1 }
+    requires last { F.can_poll waits.2 }
+{
+    let (first, other, last) = waits;
+    assert!(rt; comes_and_goes(rt, first, bell));
+    let other = goes_on(rt, other, bell);
+    assert!(rt; comes_and_goes(rt, last, bell));
     latch.count_down(rt);
     assert!(rt; latch.count(rt) == 2 && latch.try_wait(rt) == Err(2) && rung(bell) == 0);
     latch.arrive(rt, 5);
@@ -189,10 +205,16 @@ fn one_of_three_is_woken<R: Wait + Abort>(rt: &R, latch: &Latch<Bell>, bell: &Co
 }
 
 // The group's own wait ends, and a copy of it waits on until the last handle has ended.
-fn nobody_else_is_woken<R: Wait + Abort>(rt: &R, first: WaitGroup<Bell>, bell: &Count) {
-    let second = first.clone_handle(rt).ok();
-    let wait = first.into_future(rt);
-    let copy = wait.clone_wait().expect(rt, "memory");
+fn nobody_else_is_woken<R: Wait + Abort, H: End, F: Waits<Bell, ()>>(
+    rt: &R,
+    second: Option<H>,
+    wait: F,
+    copy: F,
+    bell: &Count,
+)
+    requires wait { F.can_poll wait }
+    requires copy { F.can_poll copy }
+{
     assert!(rt; comes_and_goes(rt, wait, bell));
     assert!(rt; Arc::strong_count(bell) == 1);
     let copy = goes_on(rt, copy, bell);

@@ -2,7 +2,7 @@ use crate::guards::bell;
 use mea_link::barrier::{Barrier, BarrierWait};
 use mea_link::shutdown::{ShutdownRecv, ShutdownSend, new_pair};
 use mea_test_support::{Bell, Count, end, gives, goes_on, rung};
-use mea_wait::End;
+use mea_wait::{End, Waits};
 use std::process::Abort;
 use std::sync::Wait;
 
@@ -26,7 +26,7 @@ fn handles_of_a_shutdown(rt: HostRuntime) {
     let bell = bell(&rt);
     let (sender, receiver) = new_pair(rt.alloc()).expect(&rt, "memory");
     have_one_signal(&rt, &sender, &receiver, &bell);
-    waits_for_all(&rt, sender, receiver, &bell);
+    waits_for_all(&rt, sender.await_shutdown(), receiver, &bell);
 }
 
 fn have_one_signal<R: Wait + Abort>(
@@ -52,14 +52,16 @@ fn have_one_signal<R: Wait + Abort>(
     watch.end(rt);
 }
 
-fn waits_for_all<R: Wait + Abort>(
+fn waits_for_all<R: Wait + Abort, F: Waits<Bell, ()>>(
     rt: &R,
-    sender: ShutdownSend<Bell>,
+    done: F,
     receiver: ShutdownRecv<Bell>,
     bell: &Count,
-) {
+)
+    requires { F.can_poll done }
+{
     let second = receiver.clone_handle(rt).ok();
-    let done = goes_on(rt, sender.await_shutdown(), bell);
+    let done = goes_on(rt, done, bell);
     receiver.end(rt);
     assert!(rt; rung(bell) == 2);
     assert!(rt; end(rt, second));

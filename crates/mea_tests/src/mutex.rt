@@ -17,7 +17,9 @@ fn a_mutex_is_handed_on(rt: HostRuntime) {
     let one = bell(&rt);
     let two = bell(&rt);
     let mut mutex = Mutex::new(rt.alloc(), 5);
-    is_handed_on(&rt, &mutex, &one, &two);
+    let guard = mutex.try_lock(&rt);
+    assert!(rt; !is_free(&rt, &mutex));
+    is_handed_on(&rt, guard, (mutex.lock(), mutex.lock()), (&one, &two));
     assert!(rt; mutex.get_mut() == Some(&mut 7));
     match mutex.get_mut() {
         Some(value) => *value = 6,
@@ -26,13 +28,7 @@ fn a_mutex_is_handed_on(rt: HostRuntime) {
     assert!(rt; mutex.into_inner() == Some(6));
 }
 
-fn is_handed_on<R: Wait + Abort>(rt: &R, mutex: &Mutex<u64, Bell>, one: &Count, two: &Count) {
-    let guard = mutex.try_lock(rt);
-    assert!(rt; !is_free(rt, mutex));
-    goes_to_the_first(rt, guard, (mutex.lock(), mutex.lock()), (one, two));
-}
-
-fn goes_to_the_first<R: Wait + Abort, G: End + DerefMut<Target = u64>, F: Waits<Bell, G>>(
+fn is_handed_on<R: Wait + Abort, G: End + DerefMut<Target = u64>, F: Waits<Bell, G>>(
     rt: &R,
     guard: Option<G>,
     callers: (F, F),

@@ -34,18 +34,15 @@ fn waits_of_a_semaphore(rt: HostRuntime) {
     let four = bell(&rt);
     let five = bell(&rt);
     let semaphore = Semaphore::new(rt.alloc(), 0);
-    wakes_the_first(&rt, &semaphore, &one, &two);
-    assert!(rt; semaphore.release(&rt, 1) == Ok(()));
-    pays_the_next(&rt, &semaphore, &three, &four);
-    is_heard(&rt, &semaphore, &five);
-}
-
-fn wakes_the_first<R: Wait + Abort>(rt: &R, semaphore: &Semaphore<Bell>, one: &Count, two: &Count) {
     let callers = (semaphore.acquire(1), semaphore.acquire(1));
-    wakes_one_after_the_other(rt, semaphore, callers, (one, two));
+    wakes_the_first(&rt, &semaphore, callers, (&one, &two));
+    assert!(rt; semaphore.release(&rt, 1) == Ok(()));
+    let callers = (semaphore.acquire(3), semaphore.acquire(2));
+    pays_the_next(&rt, &semaphore, callers, (&three, &four));
+    is_heard(&rt, &semaphore, semaphore.acquire(1), &five);
 }
 
-fn wakes_one_after_the_other<R: Wait + Abort, F: Waits<Bell, Result<P, Closed>>, P: End>(
+fn wakes_the_first<R: Wait + Abort, F: Waits<Bell, Result<P, Closed>>, P: End>(
     rt: &R,
     semaphore: &Semaphore<Bell>,
     callers: (F, F),
@@ -68,12 +65,7 @@ fn wakes_one_after_the_other<R: Wait + Abort, F: Waits<Bell, Result<P, Closed>>,
     assert!(rt; has_free(rt, semaphore, 1));
 }
 
-fn pays_the_next<R: Wait + Abort>(rt: &R, semaphore: &Semaphore<Bell>, one: &Count, two: &Count) {
-    let callers = (semaphore.acquire(3), semaphore.acquire(2));
-    pays_who_is_left(rt, semaphore, callers, (one, two));
-}
-
-fn pays_who_is_left<R: Wait + Abort, F: Waits<Bell, Result<P, Closed>>, P: End>(
+fn pays_the_next<R: Wait + Abort, F: Waits<Bell, Result<P, Closed>>, P: End>(
     rt: &R,
     semaphore: &Semaphore<Bell>,
     callers: (F, F),
@@ -94,9 +86,16 @@ fn pays_who_is_left<R: Wait + Abort, F: Waits<Bell, Result<P, Closed>>, P: End>(
 }
 
 // Both permits are held, and come back as before once it is closed.
-fn is_heard<R: Wait + Abort>(rt: &R, semaphore: &Semaphore<Bell>, bell: &Count) {
+fn is_heard<R: Wait + Abort, F: Waits<Bell, Result<P, Closed>>, P: End>(
+    rt: &R,
+    semaphore: &Semaphore<Bell>,
+    caller: F,
+    bell: &Count,
+)
+    requires { F.can_poll caller }
+{
     let held = semaphore.try_acquire(rt, 2);
-    let first = waits(rt, semaphore.acquire(1), bell);
+    let first = waits(rt, caller, bell);
     assert!(rt; !semaphore.is_closed(rt));
     semaphore.close(rt);
     assert!(rt; semaphore.is_closed(rt));
