@@ -1,17 +1,15 @@
-use crate::halls::play::{Lends, Lent, NOTHING, Row, Script, check_scripts};
+use crate::halls::play::{Lends, Lent, NOTHING, Row, Script, check_scripts, presence};
 use mea_chan::{ChanEvent, ChanFamily, ChanHall};
 use mea_family::Answer;
 
 // A bounded channel; the tail of a broadcast channel, and how many senders it has.
 impl Lends for ChanFamily {
     fn lent(&self, name: u64) -> Lent {
-        let broadcast = self.broadcast(name);
-        [
-            self.bounded(name).map(|_| 0),
-            broadcast.map(|core| core.tail()),
-            broadcast.map(|core| core.senders() as u64),
-            None,
-        ]
+        let (tail, senders) = match self.broadcast(name) {
+            Some(core) => (Some(core.tail()), Some(core.senders() as u64)),
+            None => (None, None),
+        };
+        [presence(self.bounded(name).is_some()), tail, senders, None]
     }
 }
 

@@ -1,17 +1,17 @@
-use crate::halls::play::{Hall, Lends, Lent, NOTHING, Row, Script, answers, check_scripts, gone, refused};
+use crate::halls::play::{
+    Hall, Lends, Lent, NOTHING, Row, Script, answers, check_scripts, gone, presence, refused,
+};
 use mea_family::{Answer, Stop};
 use mea_lock::{LockEvent, LockFamily, LockHall};
 
 // A mutex; how many read a reader-writer lock, and whether one writes.
 impl Lends for LockFamily {
     fn lent(&self, name: u64) -> Lent {
-        let rw_lock = self.rw_lock(name);
-        [
-            self.mutex(name).map(|_| 0),
-            rw_lock.map(|core| core.readers() as u64),
-            rw_lock.map(|core| core.is_writing() as u64),
-            None,
-        ]
+        let (readers, writers) = match self.rw_lock(name) {
+            Some(core) => (Some(core.readers() as u64), Some(core.is_writing() as u64)),
+            None => (None, None),
+        };
+        [presence(self.mutex(name).is_some()), readers, writers, None]
     }
 }
 

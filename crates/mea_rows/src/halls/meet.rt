@@ -1,15 +1,21 @@
-use crate::halls::play::{Hall, Lends, Lent, NOTHING, Row, Script, answers, check_scripts, gone, refused};
+use crate::halls::play::{
+    Hall, Lends, Lent, NOTHING, Row, Script, answers, check_scripts, gone, presence, refused,
+};
 use mea_family::{Answer, Stop};
 use mea_meet::{MeetEvent, MeetFamily, MeetHall};
 
 // A barrier; what a latch counts; a group; a shutdown.
 impl Lends for MeetFamily {
     fn lent(&self, name: u64) -> Lent {
+        let count = match self.latch(name) {
+            Some(core) => Some(core.count() as u64),
+            None => None,
+        };
         [
-            self.barrier(name).map(|_| 0),
-            self.latch(name).map(|core| core.count() as u64),
-            self.group(name).map(|_| 0),
-            self.shutdown(name).map(|_| 0),
+            presence(self.barrier(name).is_some()),
+            count,
+            presence(self.group(name).is_some()),
+            presence(self.shutdown(name).is_some()),
         ]
     }
 }

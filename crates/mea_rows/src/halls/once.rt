@@ -1,4 +1,4 @@
-use crate::halls::play::{Lends, Lent, NOTHING, Row, Script, check_scripts};
+use crate::halls::play::{Lends, Lent, NOTHING, Row, Script, check_scripts, presence};
 use mea_family::{Answer, Stop};
 use mea_once::{OnceEvent, OnceFamily, OnceHall};
 
@@ -6,10 +6,10 @@ use mea_once::{OnceEvent, OnceFamily, OnceHall};
 impl Lends for OnceFamily {
     fn lent(&self, name: u64) -> Lent {
         [
-            self.once(name).map(|_| 0),
-            self.cell(name).map(|_| 0),
-            self.map(name).map(|_| 0),
-            self.flight(name).map(|_| 0),
+            presence(self.once(name).is_some()),
+            presence(self.cell(name).is_some()),
+            presence(self.map(name).is_some()),
+            presence(self.flight(name).is_some()),
         ]
     }
 }

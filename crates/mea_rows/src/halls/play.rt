@@ -13,6 +13,11 @@ pub(crate) type Lent = [Option<u64>; 4];
 /// What is lent under a name of nothing.
 pub(crate) const NOTHING: &[Option<u64>] = &[None; 4];
 
+/// 0 where a core is lent, of which nothing is asked.
+pub(crate) fn presence(is_lent: bool) -> Option<u64> {
+    if is_lent { Some(0) } else { None }
+}
+
 /// The objects of a family, which lend their cores by name.
 pub(crate) trait Lends {
     /// What is lent under this name.

@@ -34,7 +34,10 @@ impl Hall for SemHall {
 
     // How many permits are held.
     fn lent(&self, name: u64) -> Lent {
-        let held = self.core(name).map(|core| core.held() as u64);
+        let held = match self.core(name) {
+            Some(core) => Some(core.held() as u64),
+            None => None,
+        };
         [held, None, None, None]
     }
 }

@@ -6,7 +6,10 @@ use mea_share::{ShareFamily, ShareHall};
 // How many permits of an admission are free.
 impl Lends for ShareFamily {
     fn lent(&self, name: u64) -> Lent {
-        let free = self.fair(name).map(|core| core.available_permits() as u64);
+        let free = match self.fair(name) {
+            Some(core) => Some(core.available_permits() as u64),
+            None => None,
+        };
         [free, None, None, None]
     }
 }
