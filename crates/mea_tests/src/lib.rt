@@ -56,3 +56,5 @@ mod semaphore;
 mod shot;
 #[cfg(test)]
 mod shot_threads;
+#[cfg(test)]
+mod threads;

@@ -1,4 +1,5 @@
 use crate::guards::{bell, sets, shows};
+use crate::threads::{Plays, on_threads};
 use mea_sync::mutex::Mutex;
 use mea_sync::rwlock::RwLock;
 use mea_sync::semaphore::{Closed, Semaphore};
@@ -6,7 +7,6 @@ use mea_test_support::{Bell, Count, end, found, polled_for};
 use mea_wait::End;
 use std::process::Abort;
 use std::sync::Wait;
-use std::thread::Threads;
 use std::{sync, thread};
 
 // Acquires one permit, at most so many turns, and ends it.
@@ -18,22 +18,6 @@ fn acquire_once<R: Wait>(rt: &R, of: &Semaphore<Bell>, count: &Count, turns: u64
         }
         Some(Err(Closed)) | None => false,
     }
-}
-
-// What each thread of a test does with what they share.
-trait Plays {
-    fn plays<R: Wait>(&self, rt: &R, thread: u64);
-}
-
-// Lets so many threads play; what one would do that cannot be started is done here.
-fn on_threads<R: Threads + Wait + Sync, P: Plays + Sync>(rt: &R, threads: u64, place: &P) {
-    thread::scope(thread::scope_env(), rt, |scope| {
-        for thread in 0..threads {
-            if scope.spawn(move || place.plays(rt, thread)).is_err() {
-                place.plays(rt, thread);
-            }
-        }
-    });
 }
 
 // A semaphore, and whether its threads abandon waits or acquire once.

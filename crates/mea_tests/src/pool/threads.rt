@@ -1,5 +1,6 @@
 use crate::guards::bell;
 use crate::pool::leases::pool;
+use crate::threads::{Plays, on_threads};
 use mea_shared_pool::{Closed, Pool};
 use mea_test_support::{Bell, Count, polled_for};
 use mea_wait::End;
@@ -7,7 +8,6 @@ use std::process::Abort;
 use std::sync::Wait;
 use std::sync::atomic::AtomicU64;
 use std::sync::atomic::Ordering::SeqCst;
-use std::thread;
 
 // What the threads of a test share.
 #[derive(Drop)]
@@ -66,23 +66,15 @@ fn asks_often<R: Wait>(rt: &R, place: &Place, thread: u64) {
 }
 
 // Who drains the pool waits for the end of it, and the others ask often.
-fn plays<R: Wait>(rt: &R, place: &Place, thread: u64) {
-    if place.drains && thread == 0 {
-        place.pool.drain(rt);
-        let _ = polled_for(rt, place.pool.drained(), &place.rung, 10_000_000);
-    } else {
-        asks_often(rt, place, thread);
-    }
-}
-
-fn on_four_threads<R: thread::Threads + Wait + Sync>(rt: &R, place: &Place) {
-    thread::scope(thread::scope_env(), rt, |scope| {
-        for thread in 0..4u64 {
-            if scope.spawn(move || plays(rt, place, thread)).is_err() {
-                plays(rt, place, thread);
-            }
+impl Plays for Place {
+    fn plays<R: Wait>(&self, rt: &R, thread: u64) {
+        if self.drains && thread == 0 {
+            self.pool.drain(rt);
+            let _ = polled_for(rt, self.pool.drained(), &self.rung, 10_000_000);
+        } else {
+            asks_often(rt, self, thread);
         }
-    });
+    }
 }
 
 // What was added to the resources of a pool of three that began with 10, 20 and 30 million, where each is there once.
@@ -113,7 +105,7 @@ fn waits_given_up_lose_no_resource(rt: HostRuntime) {
     );
     let pool = Pool::new(rt.alloc(), resources).ok().expect(&rt, "memory");
     let place = Place::new(&rt, pool, false);
-    on_four_threads(&rt, &place);
+    on_threads(&rt, 4, &place);
     assert!(rt; place.pool.idle(&rt) == 3);
     place.pool.drain(&rt);
     assert!(rt; place.pool.is_drained(&rt));
@@ -140,6 +132,6 @@ fn has_one_for_each_lease(rt: &impl Abort, place: Place) {
 #[test]
 fn a_drain_beside_three_who_ask(rt: HostRuntime) {
     let place = Place::new(&rt, pool(&rt, 2), true);
-    on_four_threads(&rt, &place);
+    on_threads(&rt, 4, &place);
     assert!(rt; place.pool.is_drained(&rt) && place.pool.idle(&rt) == 2);
 }
