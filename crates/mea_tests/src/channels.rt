@@ -15,9 +15,9 @@ use std::sync::Wait;
 fn a_bounded_channel(rt: HostRuntime) {
     let one = bell(&rt);
     let two = bell(&rt);
-    let (sender, mut receiver) = bounded(rt.alloc(), 1).expect(&rt, "memory");
+    let (sender, mut receiver) = bounded::<u64, Bell>(rt.alloc(), 1).expect(&rt, "memory");
     keeps_a_send_waiting(&rt, &sender, sender.send(9), &mut receiver, &one);
-    let last: BoundedSender<u64, Bell> = sender.clone_handle(&rt).expect(&rt, "memory");
+    let last = sender.clone_handle(&rt).expect(&rt, "memory");
     sender.end(&rt);
     hears_the_last(&rt, last, receiver.recv(), &two, Ended::Disconnected);
     receiver.end(&rt);
@@ -48,9 +48,9 @@ fn keeps_a_send_waiting<R: Wait + Abort, F: Waits<Bell, Result<(), SendError<u64
 fn an_unbounded_channel(rt: HostRuntime) {
     let one = bell(&rt);
     let two = bell(&rt);
-    let (sender, mut receiver) = unbounded(rt.alloc()).expect(&rt, "memory");
+    let (sender, mut receiver) = unbounded::<u64, Bell>(rt.alloc()).expect(&rt, "memory");
     wakes_its_receiver(&rt, &sender, receiver.recv(), &one);
-    let last: UnboundedSender<u64, Bell> = sender.clone_handle(&rt).expect(&rt, "memory");
+    let last = sender.clone_handle(&rt).expect(&rt, "memory");
     sender.end(&rt);
     hears_the_last(&rt, last, receiver.recv(), &two, Ended::Disconnected);
     assert!(rt; receiver.try_recv(&rt) == Err(TryRecvError::Disconnected));

@@ -65,7 +65,8 @@ fn passes_that_on<R: Wait + Abort, G: End, F: Waits<Bell, G>>(
 #[test]
 fn a_wait_goes_on_while_its_condition_holds(rt: HostRuntime) {
     let bell = bell(&rt);
-    let mutex = Arc::new(rt.alloc(), Mutex::new(rt.alloc(), 0)).expect(&rt, "memory");
+    let mutex: Mutex<u64, Bell> = Mutex::new(rt.alloc(), 0);
+    let mutex = Arc::new(rt.alloc(), mutex).expect(&rt, "memory");
     let condvar = Condvar::new(rt.alloc());
     let guard = share(&rt, &mutex)
         .try_lock_owned(&rt)

@@ -173,10 +173,10 @@ fn a_message_comes<R: Wait + Abort>(
 #[test]
 fn only_those_who_wait_are_woken(rt: HostRuntime) {
     let bell = bell(&rt);
-    let latch = Latch::new(rt.alloc(), 3);
+    let latch: Latch<Bell> = Latch::new(rt.alloc(), 3);
     let waits = (latch.wait(), latch.wait(), latch.wait());
     one_of_three_is_woken(&rt, &latch, waits, &bell);
-    let group = WaitGroup::new(rt.alloc()).expect(&rt, "memory");
+    let group: WaitGroup<Bell> = WaitGroup::new(rt.alloc()).expect(&rt, "memory");
     let second = group.clone_handle(&rt).ok();
     let wait = group.into_future(&rt);
     let copy = wait.clone_wait().expect(&rt, "memory");

@@ -16,7 +16,7 @@ fn is_free<R: Wait>(rt: &R, mutex: &Mutex<u64, Bell>) -> bool {
 fn a_mutex_is_handed_on(rt: HostRuntime) {
     let one = bell(&rt);
     let two = bell(&rt);
-    let mut mutex = Mutex::new(rt.alloc(), 5);
+    let mut mutex: Mutex<u64, Bell> = Mutex::new(rt.alloc(), 5);
     let guard = mutex.try_lock(&rt);
     assert!(rt; !is_free(&rt, &mutex));
     is_handed_on(&rt, guard, (mutex.lock(), mutex.lock()), (&one, &two));

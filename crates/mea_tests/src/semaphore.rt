@@ -33,7 +33,7 @@ fn waits_of_a_semaphore(rt: HostRuntime) {
     let three = bell(&rt);
     let four = bell(&rt);
     let five = bell(&rt);
-    let semaphore = Semaphore::new(rt.alloc(), 0);
+    let semaphore: Semaphore<Bell> = Semaphore::new(rt.alloc(), 0);
     let callers = (semaphore.acquire(1), semaphore.acquire(1));
     wakes_the_first(&rt, &semaphore, callers, (&one, &two));
     assert!(rt; semaphore.release(&rt, 1) == Ok(()));
