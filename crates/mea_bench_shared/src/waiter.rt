@@ -1,4 +1,5 @@
 use crate::fault::Fault;
+use crate::sharing::shared;
 use mea::{Polled, Unpolled, Waits, Wake};
 use std::alloc::Global;
 use std::sync::atomic::AtomicBool;
@@ -23,12 +24,14 @@ pub struct Waiter {
 }
 
 impl Waiter {
+    ghost use Rattle.std.specs.Prelude.{IfOk};
+    ghost use Rattle.mea_wait.specs.Polls.{IfPending};
+
     /// One whose bell has not rung.
     pub fn new(alloc: Global) -> Result<Self, Fault> {
-        match Arc::new(alloc, AtomicBool::new(false)) {
-            Ok(is_rung) => Ok(Waiter { is_rung }),
-            Err(_) => Err(Fault::NoMemory),
-        }
+        Ok(Waiter {
+            is_rung: shared(alloc, AtomicBool::new(false))?,
+        })
     }
 
     /// What a wait gives, once it is ready.
@@ -37,35 +40,46 @@ impl Waiter {
     {
         let mut wait = wait;
         for _ in rt.forever() {
-            let Ok(bell) = self.bell() else {
-                break;
-            };
-            match wait.poll(rt, bell) {
-                Ok(Polled::Ready(output)) => return Ok(output),
-                Ok(Polled::Pending(back)) => wait = back,
-                Err(
-                    Unpolled {
-                        future,
-                        waker: _,
-                        fault: _,
-                    },
-                ) => {
-                    future.end(rt);
-                    return Err(Fault::NoMemory);
-                }
+            match self.poll(rt, wait)? {
+                Polled::Ready(output) => return Ok(output),
+                Polled::Pending(back) => wait = back,
             }
             self.rest(rt);
         }
-        wait.end(rt);
-        Err(Fault::NoMemory)
+        unreachable!()
+    }
+
+    // Polls a wait once. One that is refused is ended.
+    pub(crate) fn poll<R: Wait, F: Waits<Bell, O>, O>(
+        &self,
+        rt: &R,
+        wait: F,
+    ) -> Result<Polled<F, O>, Fault>
+        requires { F.can_poll wait }
+        ensures { IfOk result (λ polled. IfPending polled F.can_poll) }
+    {
+        let Ok(bell) = self.bell() else {
+            wait.end(rt);
+            return Err(Fault::NoMemory);
+        };
+        match wait.poll(rt, bell) {
+            Ok(polled) => Ok(polled),
+            Err(
+                Unpolled {
+                    future,
+                    waker: _,
+                    fault: _,
+                },
+            ) => {
+                future.end(rt);
+                Err(Fault::NoMemory)
+            }
+        }
     }
 
     /// A bell of this thread.
     pub fn bell(&self) -> Result<Bell, Fault> {
-        match Arc::try_clone(&self.is_rung) {
-            Ok(is_rung) => Ok(Bell(is_rung)),
-            Err(_) => Err(Fault::NoMemory),
-        }
+        Ok(Bell(Arc::try_clone(&self.is_rung)?))
     }
 
     /// Yields until the bell has rung.
