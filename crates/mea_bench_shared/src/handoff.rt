@@ -24,7 +24,7 @@ impl<S> Handoff<S> {
     }
 
     /// Says that nothing more is left here.
-    pub fn finish(&self) {
+    pub fn close(&self) {
         self.is_over.store(true, SeqCst);
     }
 
@@ -36,11 +36,10 @@ impl<S> Handoff<S> {
             match left {
                 Some(thing) => return Some(thing),
                 None if is_over => return None,
-                None => {}
+                None => thread::yield_now(),
             }
-            thread::yield_now();
         }
-        None
+        unreachable!()
     }
 
     /// What nobody took.

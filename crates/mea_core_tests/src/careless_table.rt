@@ -1,6 +1,6 @@
 use crate::computing::Manner::{AtOnce, Fails, Keeps};
 use crate::computing::Step::{Ask, End, Kept, Poll, Wake};
-use crate::computing::{Script, of_a_cell, of_a_group, of_a_map};
+use crate::computing::{Script, cell_differs, group_differs, map_differs};
 use crate::play::Reply::{Count, Done, Error, Nothing, Pending, Value};
 
 const ROWS: &[Script] = &[
@@ -81,8 +81,8 @@ const ROWS: &[Script] = &[
 #[test]
 fn careless_table(rt: HostRuntime) {
     for script in ROWS {
-        assert_eq!(rt; of_a_cell(rt.alloc(), script), None);
-        assert_eq!(rt; of_a_map(rt.alloc(), script), None);
-        assert_eq!(rt; of_a_group(rt.alloc(), script), None);
+        assert_eq!(rt; cell_differs(rt.alloc(), script), None);
+        assert_eq!(rt; map_differs(rt.alloc(), script), None);
+        assert_eq!(rt; group_differs(rt.alloc(), script), None);
     }
 }

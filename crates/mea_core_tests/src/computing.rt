@@ -134,15 +134,18 @@ pub(crate) fn differs<C: Computing>(alloc: Global, object: C, script: Script) ->
     differs_at(Room::new(alloc, object), script)
 }
 
-pub(crate) fn of_a_cell(alloc: Global, script: Script) -> Option<usize> {
+/// The same of a cell.
+pub(crate) fn cell_differs(alloc: Global, script: Script) -> Option<usize> {
     differs(alloc, CellCore::new(alloc), script)
 }
 
-pub(crate) fn of_a_map(alloc: Global, script: Script) -> Option<usize> {
+/// The same of a map.
+pub(crate) fn map_differs(alloc: Global, script: Script) -> Option<usize> {
     differs(alloc, MapCore::with_hasher(alloc, Collides), script)
 }
 
-pub(crate) fn of_a_group(alloc: Global, script: Script) -> Option<usize> {
+/// The same of a group.
+pub(crate) fn group_differs(alloc: Global, script: Script) -> Option<usize> {
     differs(alloc, FlightCore::with_hasher(alloc, Collides), script)
 }
 

@@ -1,5 +1,7 @@
 use crate::computing::Manner::Settles;
-use crate::computing::{Computing, Room, Script, Scripted, Step, differs, of_a_group, of_a_map};
+use crate::computing::{
+    Computing, Room, Script, Scripted, Step, differs, group_differs, map_differs,
+};
 use crate::play::Reply::{Done, Nothing, Pending, Value};
 use crate::play::{Reply, answers};
 use mea_once_core::{FlightCore, MapCore};
@@ -31,7 +33,7 @@ const A_REMOVED_ENTRY_STAYS: &[(Step, Reply)] = &[
 
 #[test]
 fn a_removed_entry_stays(rt: HostRuntime) {
-    assert_eq!(rt; of_a_map(rt.alloc(), A_REMOVED_ENTRY_STAYS), None);
+    assert_eq!(rt; map_differs(rt.alloc(), A_REMOVED_ENTRY_STAYS), None);
 }
 
 // Calls of one key share a value; one that comes after the key was forgotten computes its own.
@@ -54,7 +56,10 @@ const A_FORGOTTEN_KEY_COMPUTES_ANEW: &[(Step, Reply)] = &[
 
 #[test]
 fn a_forgotten_key_computes_anew(rt: HostRuntime) {
-    assert_eq!(rt; of_a_group(rt.alloc(), A_FORGOTTEN_KEY_COMPUTES_ANEW), None);
+    assert_eq!(rt;
+        group_differs(rt.alloc(), A_FORGOTTEN_KEY_COMPUTES_ANEW),
+        None
+    );
 }
 
 // A call by key that ends at any stage leaves the next in its place, and the last one no empty entry.
@@ -75,14 +80,14 @@ const CALLS_BY_KEY_END: &[(Step, Reply)] = &[
     (Step::Wake, Nothing),
 ];
 
-fn of_a_map_with_room(rt: &(impl Abort + AllocGlobal), script: Script) -> Option<usize> {
+fn roomy_map_differs(rt: &(impl Abort + AllocGlobal), script: Script) -> Option<usize> {
     let map = MapCore::with_capacity_and_hasher(rt.alloc(), 2, Collides).expect(rt, "memory");
     differs(rt.alloc(), map, script)
 }
 
 #[test]
 fn calls_by_key_end(rt: HostRuntime) {
-    assert_eq!(rt; of_a_map_with_room(&rt, CALLS_BY_KEY_END), None);
+    assert_eq!(rt; roomy_map_differs(&rt, CALLS_BY_KEY_END), None);
 }
 
 // Two calls of each of 64 keys of a map, of which the first computes; every other key is taken out, and what is left is
@@ -177,7 +182,7 @@ const PAIRS_MAKE_A_MAP: &[(Step, Reply)] = &[
     (Step::Poll(0, 10), Value(51)),
 ];
 
-fn of_a_map_of_pairs(rt: &(impl Abort + AllocGlobal), script: Script) -> Option<usize> {
+fn map_of_pairs_differs(rt: &(impl Abort + AllocGlobal), script: Script) -> Option<usize> {
     let pairs = vec![in rt.alloc(); (5, 50), (6, 60), (5, 51)].expect(rt, "memory");
     let map = MapCore::from_pairs(rt.alloc(), pairs, Collides).expect(rt, "memory");
     differs(rt.alloc(), map, script)
@@ -185,7 +190,7 @@ fn of_a_map_of_pairs(rt: &(impl Abort + AllocGlobal), script: Script) -> Option<
 
 #[test]
 fn pairs_make_a_map(rt: HostRuntime) {
-    assert_eq!(rt; of_a_map_of_pairs(&rt, PAIRS_MAKE_A_MAP), None);
+    assert_eq!(rt; map_of_pairs_differs(&rt, PAIRS_MAKE_A_MAP), None);
 }
 
 // Whether a call that is polled once, with its value at hand, computes it.

@@ -37,8 +37,8 @@ enum Reply {
 
 type Permits<L> = Vec<Option<NamedPermit<L>>>;
 
-// What a call tells; none of a permit that is not there. It has no clauses, nor has what follows, so that no test carries what
-// the semaphore promises.
+// What a call tells; none of a permit that is not there. It has no clauses, nor have the calls below that it makes, so that no
+// test carries what the semaphore promises.
 fn answer<L: Ledger, R: Wait>(
     rt: &R,
     semaphore: &NamedSemaphore<L>,

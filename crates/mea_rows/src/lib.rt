@@ -1,5 +1,6 @@
 //! Scripts with the text and the status that each must have, played by `run`; among them a script for each kind of wait, ended in
-//! each stage, and reads and writes that fail. It has no code but tests.
+//! each stage, and reads and writes that fail. Beside them events on the halls, since both stand on all families. It has no code
+//! but tests.
 #![tactic(auto)]
 
 #[cfg(test)]
@@ -18,6 +19,8 @@ mod fault_table;
 mod faults;
 #[cfg(test)]
 mod generated;
+#[cfg(test)]
+mod halls;
 #[cfg(test)]
 mod limits;
 #[cfg(test)]

@@ -5,15 +5,9 @@
 ghost use Rattle.std.specs.Prelude.{IfSome};
 
 use mea_keep::{Claim, Claimed};
-use mea_test_support::{Bell, Count, PollOutcome, count, gives, poll};
+use mea_test_support::{Bell, Count, PollOutcome, gives, poll};
 use mea_wait::{End, Waits};
-use std::process::Abort;
 use std::sync::Wait;
-
-/// A count of no wakes.
-pub(crate) fn bell(rt: &(impl Abort + AllocGlobal)) -> Count {
-    count(rt.alloc()).expect(rt, "memory")
-}
 
 /// The turn that a wait gives, if there is one; what it gives instead is dropped.
 pub(crate) fn mine<R: Wait, F: Waits<Bell, Claimed<V, C>>, V: Drop, C: End>(

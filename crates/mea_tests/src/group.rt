@@ -1,4 +1,5 @@
-use crate::claims::{bell, mine};
+use crate::claims::mine;
+use crate::guards::bell;
 use crate::inits::{Fails, Gives};
 use mea_keep::Claimed;
 use mea_keep::singleflight::Group;

@@ -1,4 +1,5 @@
-use crate::claims::{bell, gave, mine, queues, there};
+use crate::claims::{gave, mine, queues, there};
+use crate::guards::bell;
 use crate::inits::{Fails, Gives};
 use mea_base::Poll;
 use mea_keep::once::OnceMap;

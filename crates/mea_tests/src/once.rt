@@ -1,4 +1,5 @@
-use crate::claims::{bell, gave, mine, queues, there};
+use crate::claims::{gave, mine, queues, there};
+use crate::guards::bell;
 use mea_keep::once::Once;
 use mea_keep::{Claim, Claimed};
 use mea_test_support::{Bell, Count, end, gives, goes_on, rung};

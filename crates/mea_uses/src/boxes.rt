@@ -17,7 +17,7 @@ fn the_newest_reading(rt: HostRuntime) -> Result<(), Fail> {
     let newest: AtomicOptionBox<u64> = AtomicOptionBox::none();
     newest.store(&rt, Some(Box::new(rt.alloc(), 17)?));
     newest.store(&rt, Some(Box::new(rt.alloc(), 18)?));
-    assert!(rt; newest.take(&rt).is_some_and(|reading| *reading == 18));
+    assert!(rt; matches!(newest.take(&rt), Some(reading) if *reading == 18));
     assert!(rt; newest.take(&rt).is_none());
     Ok(())
 }

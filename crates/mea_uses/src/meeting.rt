@@ -12,10 +12,10 @@ fn the_last_to_come_leads(rt: HostRuntime) {
     let barrier = Barrier::new(rt.alloc(), 2);
     let wait = early.later(&rt, barrier.wait());
     let leader = late.now(&rt, barrier.wait());
-    assert!(rt; leader.is_some_and(|met| met.is_leader()));
+    assert!(rt; matches!(leader, Some(met) if met.is_leader()));
     assert!(rt; early.calls() == 1);
     let other = early.again(&rt, wait);
-    assert!(rt; other.is_some_and(|met| !met.is_leader()));
+    assert!(rt; matches!(other, Some(met) if !met.is_leader()));
 }
 
 // A server waits until each of its workers has ended its handle.

@@ -22,9 +22,5 @@ fn a_part_that_is_written_and_read(rt: HostRuntime) {
         // There is no memory to share the value among those who read, and the write comes back.
         Err((write, _)) => write.end(&rt),
     }
-    assert!(rt;
-        settings
-            .into_inner()
-            .is_some_and(|settings| settings.limit == 20)
-    );
+    assert!(rt; matches!(settings.into_inner(), Some(settings) if settings.limit == 20));
 }

@@ -1,5 +1,10 @@
 use mea_sem_core::{Acquire, OpenTurn, SemCore};
 
+// What a client that asks for a connection is told; None means want of memory.
+fn ask(connections: &mut SemCore<u64>, client: &mut Acquire, waker: u64) -> Option<OpenTurn<u64>> {
+    connections.poll_open_checked(client, waker).ok()
+}
+
 // Two connections and three clients, whose wakers are their numbers. The pool is drained by closing it.
 #[test]
 fn a_pool_of_connections(rt: HostRuntime) {
@@ -7,20 +12,20 @@ fn a_pool_of_connections(rt: HostRuntime) {
     let [mut first, mut second, mut third] = [Acquire::new(1), Acquire::new(1), Acquire::new(1)];
     assert!(rt;
         matches!(
-            connections.poll_open_checked(&mut first, 1),
-            Ok(OpenTurn::Ready(_))
+            ask(&mut connections, &mut first, 1),
+            Some(OpenTurn::Ready(_))
         )
     );
     assert!(rt;
         matches!(
-            connections.poll_open_checked(&mut second, 2),
-            Ok(OpenTurn::Ready(_))
+            ask(&mut connections, &mut second, 2),
+            Some(OpenTurn::Ready(_))
         )
     );
     assert!(rt;
         matches!(
-            connections.poll_open_checked(&mut third, 3),
-            Ok(OpenTurn::Pending)
+            ask(&mut connections, &mut third, 3),
+            Some(OpenTurn::Pending)
         )
     );
 
@@ -29,8 +34,8 @@ fn a_pool_of_connections(rt: HostRuntime) {
     assert_eq!(rt; connections.next_wake(), Some(3));
     assert!(rt;
         matches!(
-            connections.poll_open_checked(&mut third, 3),
-            Ok(OpenTurn::Ready(_))
+            ask(&mut connections, &mut third, 3),
+            Some(OpenTurn::Ready(_))
         )
     );
 
@@ -39,8 +44,8 @@ fn a_pool_of_connections(rt: HostRuntime) {
     let mut late = Acquire::new(1);
     assert!(rt;
         matches!(
-            connections.poll_open_checked(&mut late, 4),
-            Ok(OpenTurn::Closed(_))
+            ask(&mut connections, &mut late, 4),
+            Some(OpenTurn::Closed(_))
         )
     );
     connections.give_back_checked(2);
