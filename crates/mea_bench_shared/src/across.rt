@@ -1,187 +1,173 @@
 //! Messages through oneshot channels from one thread to another: the one that receives makes each channel, and hands its
 //! sender over.
-use crate::fault::Fault;
 use crate::handoff::Handoff;
-use crate::rounds::{Rounds, beside};
-use crate::sharing::shared;
-use crate::waiter::{Bell, Waiter};
-use mea::oneshot::{Plain, Receiver, Recv, Sender, channel};
-use mea::{Poll, Wake};
+use mea::Wake;
+use mea::oneshot::{Plain, Sender, channel};
+use mea_base::Poll;
+use mea_bench_waits::{Bell, Fault, Waiter};
 use mea_chan_core::OneshotCore;
-use std::alloc::{AllocGlobal, Global};
 use std::sync::{Arc, Mutex, Wait};
+use std::thread;
 use std::thread::Threads;
 
-/// The sender of a oneshot channel.
-pub trait Shot: Sized {
-    /// The receiver of its channel.
-    type Receiver;
+type Lockless = Sender<Plain<u64>, Bell>;
 
-    /// Both ends of a channel.
-    fn channel(alloc: Global) -> Result<(Self, Self::Receiver), Fault>;
+type Locked = Arc<Mutex<OneshotCore<u64, Bell>>>;
 
-    /// Sends 1.
-    fn send_one<R: Wait>(self, rt: &R);
-
-    /// Ends it, with nothing sent.
-    fn give_up(self);
-
-    /// What comes, once it has.
-    fn receive<R: Wait>(rt: &R, receiver: Self::Receiver, waiter: &Waiter) -> Result<u64, Fault>;
-}
-
-/// Messages go each through a channel of its own.
-pub fn shots<R: Threads + Wait + AllocGlobal + Sync, S: Shot + Send>(
-    rt: &R,
-    rounds: u64,
-) -> Result<(), Fault> {
-    let handoff: Handoff<S> = Handoff::new();
-    let done = exchange(rt, &handoff, rounds);
+/// A message goes through a channel without a lock.
+pub fn shots<R: Threads + Wait + AllocGlobal + Sync>(rt: &R, rounds: u64) -> Result<(), Fault> {
+    let handoff: Handoff<Lockless> = Handoff::new();
+    let ((), received) = thread::join(
+        rt,
+        || sends(rt, &handoff),
+        || receives(rt, &handoff, rounds),
+    );
     if let Some(sender) = handoff.into_left() {
-        sender.give_up();
+        sender.end();
     }
-    done
+    received
 }
 
-fn exchange<R: Threads + Wait + AllocGlobal + Sync, S: Shot + Send>(
-    rt: &R,
-    handoff: &Handoff<S>,
-    rounds: u64,
-) -> Result<(), Fault> {
-    beside(rt, 1, handoff, rounds, &mut Receives { handoff }, rounds)
-}
-
-// Sends by a sender that is handed over.
-impl<'a, S: Shot> Rounds for &'a Handoff<S> {
-    fn round<R: Wait + AllocGlobal>(
-        &mut self,
-        rt: &R,
-        _waiter: &Waiter,
-        _number: u64,
-    ) -> Result<(), Fault> {
-        match self.take(rt) {
-            Some(sender) => {
-                sender.send_one(rt);
-                Ok(())
-            }
-            None => Err(Fault::NoMemory),
-        }
-    }
-}
-
-// Receives a message by each sender that it hands over.
-#[derive(Drop)]
-struct Receives<'a, S: Shot> {
-    handoff: &'a Handoff<S>,
-}
-
-impl<'a, S: Shot> Rounds for Receives<'a, S> {
-    fn round<R: Wait + AllocGlobal>(
-        &mut self,
-        rt: &R,
-        waiter: &Waiter,
-        _number: u64,
-    ) -> Result<(), Fault> {
-        let (sender, receiver) = S::channel(rt.alloc())?;
-        if let Some(left) = self.handoff.leave(rt, sender) {
-            left.give_up();
-        }
-        let message = S::receive(rt, receiver, waiter)?;
-        Fault::unless(message == 1)
-    }
-
-    // Who sends is told that no more senders come.
-    fn finish(&mut self) {
-        self.handoff.close();
-    }
-}
-
-// A channel without a lock.
-impl Shot for Sender<Plain<u64>, Bell> {
-    type Receiver = Receiver<Plain<u64>, Bell>;
-
-    fn channel(alloc: Global) -> Result<(Self, Receiver<Plain<u64>, Bell>), Fault> {
-        Ok(channel::<Plain<u64>, Bell>(alloc)?)
-    }
-
-    fn send_one<R: Wait>(self, _rt: &R) {
-        if let Ok(sent) = self.send(Plain(1)) {
+// Sends 1 by each sender that is handed over.
+fn sends<R: Wait>(rt: &R, handoff: &Handoff<Lockless>) {
+    for _ in rt.forever() {
+        let Some(sender) = handoff.take(rt) else {
+            return;
+        };
+        if let Ok(sent) = sender.send(Plain(1)) {
             sent.end();
         }
     }
+}
 
-    fn give_up(self) {
-        self.end();
+fn receives<R: Wait + AllocGlobal>(
+    rt: &R,
+    handoff: &Handoff<Lockless>,
+    rounds: u64,
+) -> Result<(), Fault> {
+    let waiter = Waiter::new(rt.alloc())?;
+    let mut sum = 0u64;
+    for _ in 0..rounds {
+        match received(rt, handoff, &waiter) {
+            Ok(message) => sum = sum.wrapping_add(message),
+            Err(fault) => {
+                handoff.finish();
+                return Err(fault);
+            }
+        }
     }
-
-    fn receive<R: Wait>(
-        rt: &R,
-        receiver: Receiver<Plain<u64>, Bell>,
-        waiter: &Waiter,
-    ) -> Result<u64, Fault> {
-        let mut recv = receiver.into_future();
-        let got = wait_for(rt, &mut recv, waiter);
-        recv.end();
-        got
+    handoff.finish();
+    if sum == rounds {
+        Ok(())
+    } else {
+        Err(Fault::Answer)
     }
 }
 
-fn wait_for<R: Wait>(
+fn received<R: Wait + AllocGlobal>(
     rt: &R,
-    recv: &mut Recv<Plain<u64>, Bell>,
+    handoff: &Handoff<Lockless>,
     waiter: &Waiter,
 ) -> Result<u64, Fault> {
+    let (sender, receiver) = channel::<Plain<u64>, Bell>(rt.alloc())?;
+    if let Some(sender) = handoff.leave(rt, sender) {
+        sender.end();
+    }
+    let mut recv = receiver.into_future();
+    let mut got = Err(Fault::NoMemory);
     for _ in rt.forever() {
-        match recv.poll(waiter.bell()?) {
-            Poll::Ready(Ok(Plain(message))) => return Ok(message),
-            Poll::Ready(Err(_)) => return Err(Fault::Answer),
+        let Ok(bell) = waiter.bell() else {
+            break;
+        };
+        match recv.poll(bell) {
+            Poll::Ready(Ok(Plain(message))) => {
+                got = Ok(message);
+                break;
+            }
+            Poll::Ready(Err(_)) => {
+                got = Err(Fault::Answer);
+                break;
+            }
             Poll::Pending => waiter.rest(rt),
         }
     }
-    unreachable!()
+    recv.end();
+    got
 }
 
-/// A channel with a lock of std round the core of a oneshot.
-pub type Locked = Arc<Mutex<OneshotCore<u64, Bell>>>;
+/// The same with a lock of std round the core of a oneshot.
+pub fn locked_shots<R: Threads + Wait + AllocGlobal + Sync>(
+    rt: &R,
+    rounds: u64,
+) -> Result<(), Fault> {
+    let handoff: Handoff<Locked> = Handoff::new();
+    let ((), received) = thread::join(
+        rt,
+        || sends_locked(rt, &handoff),
+        || receives_locked(rt, &handoff, rounds),
+    );
+    let _left = handoff.into_left();
+    received
+}
 
-/// A channel without a lock.
-pub type Lockless = Sender<Plain<u64>, Bell>;
-
-impl Shot for Locked {
-    type Receiver = Locked;
-
-    fn channel(alloc: Global) -> Result<(Locked, Locked), Fault> {
-        let sender = shared(alloc, Mutex::new(OneshotCore::new()))?;
-        let receiver = Arc::try_clone(&sender)?;
-        Ok((sender, receiver))
-    }
-
-    fn send_one<R: Wait>(self, rt: &R) {
-        let woken = send_locked(&mut *self.lock(rt));
+fn sends_locked<R: Wait>(rt: &R, handoff: &Handoff<Locked>) {
+    for _ in rt.forever() {
+        let Some(sender) = handoff.take(rt) else {
+            return;
+        };
+        let woken = {
+            let mut core = sender.lock(rt);
+            let _sent = core.send(1);
+            core.end_sender_checked();
+            core.next_wake()
+        };
         if let Some(bell) = woken {
             bell.wake();
         }
     }
+}
 
-    fn give_up(self) {}
-
-    fn receive<R: Wait>(rt: &R, receiver: Locked, waiter: &Waiter) -> Result<u64, Fault> {
-        for _ in rt.forever() {
-            let bell = waiter.bell()?;
-            let polled = receiver.lock(rt).poll_recv(bell);
-            match polled {
-                Poll::Ready(Ok(message)) => return Ok(message),
-                Poll::Ready(Err(_)) => return Err(Fault::Answer),
-                Poll::Pending => waiter.rest(rt),
+fn receives_locked<R: Wait + AllocGlobal>(
+    rt: &R,
+    handoff: &Handoff<Locked>,
+    rounds: u64,
+) -> Result<(), Fault> {
+    let waiter = Waiter::new(rt.alloc())?;
+    let mut sum = 0u64;
+    for _ in 0..rounds {
+        match received_locked(rt, handoff, &waiter) {
+            Ok(message) => sum = sum.wrapping_add(message),
+            Err(fault) => {
+                handoff.finish();
+                return Err(fault);
             }
         }
-        unreachable!()
+    }
+    handoff.finish();
+    if sum == rounds {
+        Ok(())
+    } else {
+        Err(Fault::Answer)
     }
 }
 
-// The bell to ring.
-fn send_locked(core: &mut OneshotCore<u64, Bell>) -> Option<Bell> {
-    let _sent = core.send(1);
-    core.end_sender_checked();
-    core.next_wake()
+fn received_locked<R: Wait + AllocGlobal>(
+    rt: &R,
+    handoff: &Handoff<Locked>,
+    waiter: &Waiter,
+) -> Result<u64, Fault> {
+    let Ok(receiver) = Arc::new(rt.alloc(), Mutex::new(OneshotCore::new())) else {
+        return Err(Fault::NoMemory);
+    };
+    let _left = handoff.leave(rt, Arc::try_clone(&receiver)?);
+    for _ in rt.forever() {
+        let bell = waiter.bell()?;
+        let polled = receiver.lock(rt).poll_recv(bell);
+        match polled {
+            Poll::Ready(Ok(message)) => return Ok(message),
+            Poll::Ready(Err(_)) => return Err(Fault::Answer),
+            Poll::Pending => waiter.rest(rt),
+        }
+    }
+    Err(Fault::Answer)
 }

@@ -24,7 +24,7 @@ impl<S> Handoff<S> {
     }
 
     /// Says that nothing more is left here.
-    pub fn close(&self) {
+    pub fn finish(&self) {
         self.is_over.store(true, SeqCst);
     }
 
@@ -36,10 +36,11 @@ impl<S> Handoff<S> {
             match left {
                 Some(thing) => return Some(thing),
                 None if is_over => return None,
-                None => thread::yield_now(),
+                None => {}
             }
+            thread::yield_now();
         }
-        unreachable!()
+        None
     }
 
     /// What nobody took.

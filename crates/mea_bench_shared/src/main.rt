@@ -10,26 +10,16 @@
 
 mod across;
 mod alone;
-mod broadcasts;
 mod channels;
-mod crowd;
-mod fault;
-mod gathered;
 mod handoff;
-mod locks;
-mod maps;
-mod pair;
-mod rounds;
+mod handover;
 mod sending;
-mod sharing;
 mod shots;
 mod tasks;
-mod waiter;
-mod watched;
 mod work;
 
-use crate::fault::Fault;
 use crate::work::WORKS;
+use mea_bench_waits::Fault;
 use std::process::ExitCode;
 use std::random::RandomSource;
 use std::sync::Wait;
@@ -82,12 +72,7 @@ fn words_of(rt: &(impl env::Env + AllocGlobal)) -> io::Result<Option<Asked>> {
     let Ok(rounds) = word.parse::<u64>() else {
         return Ok(None);
     };
-    let asked = Asked { rounds, only };
-    if asked.is_known() {
-        Ok(Some(asked))
-    } else {
-        Ok(None)
-    }
+    Ok(Some(Asked { rounds, only }).filter(|asked| asked.is_known()))
 }
 
 // Measures each work in turn, and prints a line for it; beside std's and tokio's, what part of it ours took.
@@ -99,32 +84,15 @@ fn report<R: Print + Clock + Threads + Wait + RandomSource + AllocGlobal + Sync>
     for (name, work) in &WORKS {
         if asked.wants(*name) {
             let all = work.nanoseconds(rt, asked.rounds)?;
-            let percent = if work.is_beside() {
-                percent_of(before, all)
+            let each = all / u128::from(asked.rounds.max(1));
+            if work.is_beside() && before > 0 {
+                let percent = before.saturating_mul(100) / all.max(1);
+                println!(rt; "{name} {each} ns, and ours took {percent} % of that")?;
             } else {
-                None
-            };
-            tell(rt, *name, all / u128::from(asked.rounds.max(1)), percent)?;
+                println!(rt; "{name} {each} ns")?;
+            }
             before = all;
         }
-    }
-    Ok(())
-}
-
-// What part ours took, in hundredths; None where ours was not measured.
-fn percent_of(ours: u128, theirs: u128) -> Option<u128> {
-    if ours > 0 {
-        Some(ours.saturating_mul(100) / theirs.max(1))
-    } else {
-        None
-    }
-}
-
-// Prints the line of a work.
-fn tell(rt: &impl Print, name: &str, each: u128, percent: Option<u128>) -> Result<(), Fault> {
-    match percent {
-        Some(percent) => println!(rt; "{name} {each} ns, and ours took {percent} % of that")?,
-        None => println!(rt; "{name} {each} ns")?,
     }
     Ok(())
 }

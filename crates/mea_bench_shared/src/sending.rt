@@ -1,12 +1,11 @@
 //! Two tasks of one pool, of which one sends messages to the other through a bounded channel. It stands here for the kit's
 //! tokio too.
-use crate::fault::Fault;
-use crate::pair::{pool_of, run};
-use futures::future::Either;
+use futures::executor::LocalPool;
 use futures::task::{Context, Poll};
 use futures::{Future, Sink, Stream, ready};
-use mea::mpsc::{BoundedSender, bounded};
-use mea_futures::{Bell, Feeding, Kept, feed, receive};
+use mea::mpsc::{BoundedReceiver, BoundedSender, bounded};
+use mea_bench_waits::Fault;
+use mea_futures::{Bell, Feeding, Kept, Receiving, feed, receive};
 use std::alloc::AllocGlobal;
 use std::random::RandomSource;
 use std::sync::Wait;
@@ -42,18 +41,16 @@ impl<'a, R: Wait> Future for Sends<'a, R> {
     }
 }
 
-// A task that receives so many, by whatever channel.
+// A task that receives so many.
 #[derive(Drop)]
-struct Takes<'a, S> {
-    stream: S,
+struct Takes<'a, R: Wait> {
+    stream: Receiving<'a, R, BoundedReceiver<u64, Bell>, u64>,
     left: u64,
     sum: &'a AtomicU64,
 }
 
-impl<'a, S: Stream<Item = u64>> Future for Takes<'a, S> {
+impl<'a, R: Wait> Future for Takes<'a, R> {
     type Output = ();
-
-    ghost can_poll = { λ t. S.can_poll t.stream };
 
     fn poll(&mut self, cx: &mut Context<'_>) -> Poll<()> {
         let mut sum = 0u64;
@@ -73,51 +70,65 @@ impl<'a, S: Stream<Item = u64>> Future for Takes<'a, S> {
     }
 }
 
+// A task that sends, or one that receives.
+#[derive(Drop)]
+enum Exchange<'a, R: Wait> {
+    Sends(Sends<'a, R>),
+    Takes(Takes<'a, R>),
+}
+
+impl<'a, R: Wait> Future for Exchange<'a, R> {
+    type Output = ();
+
+    fn poll(&mut self, cx: &mut Context<'_>) -> Poll<()> {
+        match self {
+            Exchange::Sends(sends) => sends.poll(cx),
+            Exchange::Takes(takes) => takes.poll(cx),
+        }
+    }
+}
+
 /// Messages go through a bounded channel from one task to another of its pool.
 pub fn messages<R: Wait + RandomSource + AllocGlobal>(rt: &R, rounds: u64) -> Result<(), Fault> {
     let (sender, receiver) = bounded::<u64, Bell>(rt.alloc(), PLACES)?;
     let sender = Kept::new(rt, sender);
     let stream = receive(rt, rt.alloc(), receiver)?;
-    exchange(rt, sender.get(), stream, rounds)
-}
-
-fn exchange<'a, R: Wait + RandomSource + AllocGlobal + 'a, S: Stream<Item = u64>>(
-    rt: &'a R,
-    sender: &'a BoundedSender<u64, Bell>,
-    stream: S,
-    rounds: u64,
-) -> Result<(), Fault>
-    requires { S.can_poll stream }
-{
-    let sends = Sends {
-        sink: feed(rt, rt.alloc(), sender)?,
-        left: rounds,
-    };
-    run_both(rt, sends, stream, rounds)
+    let sum = AtomicU64::new(0);
+    exchanges(rt, sender.get(), stream, &sum, rounds)?;
+    if sum.load(SeqCst) == rounds {
+        Ok(())
+    } else {
+        Err(Fault::Answer)
+    }
 }
 
 // Runs both tasks to their ends.
-fn run_both<R: Wait + RandomSource + AllocGlobal, F: Future<Output = ()>, S: Stream<Item = u64>>(
-    rt: &R,
-    sends: F,
-    stream: S,
+fn exchanges<'a, R: Wait + RandomSource + AllocGlobal + 'a>(
+    rt: &'a R,
+    sender: &'a BoundedSender<u64, Bell>,
+    stream: Receiving<'a, R, BoundedReceiver<u64, Bell>, u64>,
+    sum: &'a AtomicU64,
     rounds: u64,
-) -> Result<(), Fault>
-    requires sends { F.can_poll sends }
-    requires takes { S.can_poll stream }
-{
-    let sum = AtomicU64::new(0);
-    let takes = Takes {
+) -> Result<(), Fault> {
+    let mut pool = LocalPool::new(rt)?;
+    let spawner = pool.spawner()?;
+    let sends = Exchange::Sends(Sends {
+        sink: feed(rt, rt.alloc(), sender)?,
+        left: rounds,
+    });
+    let takes = Exchange::Takes(Takes {
         stream,
         left: rounds,
-        sum: &sum,
-    };
-    let pool = pool_of(rt, Either::Left(sends), Either::Right(takes))?;
-    run(rt, pool, true)?;
-    Fault::unless(sum.load(SeqCst) == rounds)
+        sum,
+    });
+    if spawner.spawn(sends).is_err() || spawner.spawn(takes).is_err() {
+        return Err(Fault::NoMemory);
+    }
+    pool.run(rt);
+    Ok(())
 }
 
-// The task that sends with the channel of tokio.
+// The same task with the channel of tokio.
 #[derive(Drop)]
 struct TokioSends<'a> {
     sender: &'a mpsc::Sender<u64>,
@@ -144,16 +155,95 @@ impl<'a> Future for TokioSends<'a> {
     }
 }
 
+#[derive(Drop)]
+struct TokioTakes<'a> {
+    receiver: mpsc::Receiver<u64>,
+    left: u64,
+    sum: &'a AtomicU64,
+}
+
+impl<'a> Future for TokioTakes<'a> {
+    type Output = ();
+
+    fn poll(&mut self, cx: &mut Context<'_>) -> Poll<()> {
+        let mut sum = 0u64;
+        while self.left > 0 {
+            match self.receiver.poll_recv(cx) {
+                Poll::Ready(Some(message)) => sum = sum.wrapping_add(message),
+                Poll::Ready(None) => break,
+                Poll::Pending => {
+                    self.sum.fetch_add(sum, SeqCst);
+                    return Poll::Pending;
+                }
+            }
+            self.left -= 1;
+        }
+        self.sum.fetch_add(sum, SeqCst);
+        Poll::Ready(())
+    }
+}
+
+// A task that sends, or one that receives.
+#[derive(Drop)]
+enum TokioExchange<'a> {
+    Sends(TokioSends<'a>),
+    Takes(TokioTakes<'a>),
+}
+
+impl<'a> Future for TokioExchange<'a> {
+    ghost use Rattle.tokio.specs.Channels.{CanSend};
+    ghost use Rattle.mea_bench_shared.specs.declared.sending.TokioExchange.TheVariants.{Sends, Takes};
+    ghost use Rattle.std.specs.Prelude.{⊤};
+
+    type Output = ();
+
+    ghost can_poll = { elim [ Sends s ↦ CanSend s.send | Takes t ↦ ⊤ ] };
+
+    fn poll(&mut self, cx: &mut Context<'_>) -> Poll<()> {
+        match self {
+            TokioExchange::Sends(sends) => sends.poll(cx),
+            TokioExchange::Takes(takes) => takes.poll(cx),
+        }
+    }
+}
+
 /// The same with the channel of tokio.
 pub fn tokio_messages<R: Wait + RandomSource + AllocGlobal>(
     rt: &R,
     rounds: u64,
 ) -> Result<(), Fault> {
     let (sender, receiver) = mpsc::channel::<u64>(rt.alloc(), PLACES)?;
-    let sends = TokioSends {
-        sender: &sender,
+    let sum = AtomicU64::new(0);
+    tokio_exchanges(rt, &sender, receiver, &sum, rounds)?;
+    if sum.load(SeqCst) == rounds {
+        Ok(())
+    } else {
+        Err(Fault::Answer)
+    }
+}
+
+fn tokio_exchanges<'a, R: Wait + RandomSource + AllocGlobal>(
+    rt: &R,
+    sender: &'a mpsc::Sender<u64>,
+    receiver: mpsc::Receiver<u64>,
+    sum: &'a AtomicU64,
+    rounds: u64,
+) -> Result<(), Fault> {
+    let mut pool = LocalPool::new(rt)?;
+    let spawner = pool.spawner()?;
+    let sends = TokioExchange::Sends(TokioSends {
+        sender,
         send: sender.send(1),
         left: rounds,
-    };
-    run_both(rt, sends, receiver, rounds)
+    });
+    let takes = TokioExchange::Takes(TokioTakes {
+        receiver,
+        left: rounds,
+        sum,
+    });
+    if spawner.spawn(sends).is_err() || spawner.spawn(takes).is_err() {
+        return Err(Fault::NoMemory);
+    }
+    pool.run(rt);
+    Ok(())
 }

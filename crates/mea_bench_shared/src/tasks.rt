@@ -1,66 +1,64 @@
-//! Two tasks of one pool that hand a permit to each other, by the semaphore here and by that of the kit's tokio.
-ghost use Rattle.std.specs.Prelude.{◌≡◌, true, IfOk, IsSome};
+//! Two tasks of one pool: a permit that they hand to each other, and messages from one to the other. Both stand here for the
+//! kit's tokio too.
+ghost use Rattle.std.specs.Prelude.{IfOk, IsSome};
 
-use crate::fault::Fault;
-use crate::pair::{pool_of, run};
-use crate::sharing::shared;
+use futures::executor::LocalPool;
 use futures::task::{Context, Poll};
 use futures::{Future, ready};
 use mea::semaphore::Semaphore;
+use mea_bench_waits::Fault;
 use mea_futures::{Acquiring, Bell, wait};
-use std::alloc::AllocGlobal;
+use std::alloc::{AllocGlobal, Global};
 use std::random::RandomSource;
 use std::sync::atomic::AtomicU64;
 use std::sync::atomic::Ordering::SeqCst;
 use std::sync::{Arc, Wait};
 use tokio::sync;
 
-/// A wait for a permit, which goes back as soon as it is there: ready tells whether it was.
-trait PermitWait: Future<Output = bool> {
-    /// Makes the wait anew, if there is memory for that.
-    fn again(&mut self) -> bool
-        ensures { result ≡ true → Self.can_poll self.new };
-}
-
-/// A semaphore whose permit tasks hand to each other.
-trait Handed<'a, R: 'a>: Copy {
-    /// A wait for its permit.
-    type Wait: PermitWait;
-
-    /// A wait that was never polled.
-    fn wait(self, rt: &'a R) -> Result<Self::Wait, Fault>
-        ensures { IfOk result Self.Wait.can_poll };
-
-    /// Adds a permit, if it can.
-    fn release_one(self, rt: &R) -> bool;
+// A wait for the permit, that was never polled.
+fn acquiring<'a, R: Wait>(
+    rt: &'a R,
+    alloc: Global,
+    semaphore: &Arc<Semaphore<Bell>>,
+) -> Result<Acquiring<'a, R>, Fault>
+    ensures { IfOk result (λ acquire. IsSome acquire.waiting.wait) }
+{
+    let acquire = Arc::try_clone(semaphore)?.acquire_owned(1);
+    match wait(rt, alloc, acquire) {
+        Ok(waiting) => Ok(waiting.try_holding()),
+        Err(_) => Err(Fault::NoMemory),
+    }
 }
 
 // A task that waits for the permit, hands it on as soon as it has it, and waits again, so many times.
 #[derive(Drop)]
-struct Hands<'a, A: PermitWait> {
-    wait: A,
+struct Hands<'a, R: Wait> {
+    semaphore: &'a Arc<Semaphore<Bell>>,
+    acquire: Acquiring<'a, R>,
     left: u64,
     done: &'a AtomicU64,
 }
 
-impl<'a, A: PermitWait> Future for Hands<'a, A> {
+impl<'a, R: Wait> Future for Hands<'a, R> {
     type Output = ();
 
-    ghost can_poll = { λ h. A.can_poll h.wait };
+    ghost can_poll = { λ h. IsSome h.acquire.waiting.wait };
 
     fn poll(&mut self, cx: &mut Context<'_>) -> Poll<()> {
-        if !ready!(self.wait.poll(cx)) {
+        let Ok(Ok(permit)) = ready!(self.acquire.poll(cx)) else {
             return Poll::Ready(());
-        }
+        };
+        drop(permit);
         self.left = self.left.saturating_sub(1);
         if self.left == 0 {
             self.done.fetch_add(1, SeqCst);
             return Poll::Ready(());
         }
-        if !self.wait.again() {
+        let Ok(share) = Arc::try_clone(self.semaphore) else {
             return Poll::Ready(());
-        }
-        match self.wait.poll(cx) {
+        };
+        self.acquire.restart(share.acquire_owned(1));
+        match self.acquire.poll(cx) {
             Poll::Pending => Poll::Pending,
             Poll::Ready(_) => Poll::Ready(()),
         }
@@ -69,8 +67,82 @@ impl<'a, A: PermitWait> Future for Hands<'a, A> {
 
 /// A permit is handed on between two tasks of one pool.
 pub fn permits<R: Wait + RandomSource + AllocGlobal>(rt: &R, rounds: u64) -> Result<(), Fault> {
-    let semaphore = shared(rt.alloc(), Semaphore::new(rt.alloc(), 0))?;
-    hand_over(rt, &semaphore, rounds.div_ceil(2))
+    let semaphore = Arc::new(rt.alloc(), Semaphore::new(rt.alloc(), 0)).map_err(
+        |_| Fault::NoMemory,
+    )?;
+    let done = AtomicU64::new(0);
+    hand_over(rt, &semaphore, &done, rounds.div_ceil(2))?;
+    if done.load(SeqCst) == 2 {
+        Ok(())
+    } else {
+        Err(Fault::Answer)
+    }
+}
+
+// Runs both tasks to their ends.
+fn hand_over<'a, R: Wait + RandomSource + AllocGlobal + 'a>(
+    rt: &'a R,
+    semaphore: &'a Arc<Semaphore<Bell>>,
+    done: &'a AtomicU64,
+    times: u64,
+) -> Result<(), Fault> {
+    let mut pool = LocalPool::new(rt)?;
+    let spawner = pool.spawner()?;
+    for _ in 0..2u32 {
+        let task = Hands {
+            semaphore,
+            acquire: acquiring(rt, rt.alloc(), semaphore)?,
+            left: times,
+            done,
+        };
+        if spawner.spawn(task).is_err() {
+            return Err(Fault::NoMemory);
+        }
+    }
+    // Both queue before there is a permit.
+    pool.run_until_stalled(2);
+    if semaphore.release(rt, 1).is_err() {
+        return Err(Fault::Answer);
+    }
+    pool.run(rt);
+    Ok(())
+}
+
+// The same task with the semaphore of tokio.
+#[derive(Drop)]
+struct TokioHands<'a> {
+    semaphore: &'a Arc<sync::Semaphore>,
+    acquire: sync::AcquireOwned,
+    left: u64,
+    done: &'a AtomicU64,
+}
+
+impl<'a> Future for TokioHands<'a> {
+    ghost use Rattle.tokio.specs.Locks.{CanAcquire};
+
+    type Output = ();
+
+    ghost can_poll = { λ h. CanAcquire h.acquire };
+
+    fn poll(&mut self, cx: &mut Context<'_>) -> Poll<()> {
+        let Ok(permit) = ready!(self.acquire.poll(cx)) else {
+            return Poll::Ready(());
+        };
+        drop(permit);
+        self.left = self.left.saturating_sub(1);
+        if self.left == 0 {
+            self.done.fetch_add(1, SeqCst);
+            return Poll::Ready(());
+        }
+        let Ok(share) = Arc::try_clone(self.semaphore) else {
+            return Poll::Ready(());
+        };
+        self.acquire = sync::Semaphore::acquire_owned(share);
+        match self.acquire.poll(cx) {
+            Poll::Pending => Poll::Pending,
+            Poll::Ready(_) => Poll::Ready(()),
+        }
+    }
 }
 
 /// The same with the semaphore of tokio.
@@ -78,129 +150,29 @@ pub fn tokio_permits<R: Wait + RandomSource + AllocGlobal>(
     rt: &R,
     rounds: u64,
 ) -> Result<(), Fault> {
-    let semaphore = shared(rt.alloc(), sync::Semaphore::new(rt.alloc(), 0)?)?;
-    hand_over(rt, &semaphore, rounds.div_ceil(2))
-}
-
-// Runs two tasks to their ends.
-fn hand_over<'a, R: Wait + RandomSource + AllocGlobal + 'a, S: Handed<'a, R>>(
-    rt: &'a R,
-    semaphore: S,
-    times: u64,
-) -> Result<(), Fault> {
+    let semaphore = Arc::new(rt.alloc(), sync::Semaphore::new(rt.alloc(), 0)?).map_err(
+        |_| Fault::NoMemory,
+    )?;
     let done = AtomicU64::new(0);
-    let first = Hands {
-        wait: semaphore.wait(rt)?,
-        left: times,
-        done: &done,
-    };
-    let second = Hands {
-        wait: semaphore.wait(rt)?,
-        left: times,
-        done: &done,
-    };
-    let mut pool = pool_of(rt, first, second)?;
-    // Both queue before there is a permit.
+    let mut pool = LocalPool::new(rt)?;
+    let spawner = pool.spawner()?;
+    for _ in 0..2u32 {
+        let task = TokioHands {
+            semaphore: &semaphore,
+            acquire: sync::Semaphore::acquire_owned(Arc::try_clone(&semaphore)?),
+            left: rounds.div_ceil(2),
+            done: &done,
+        };
+        if spawner.spawn(task).is_err() {
+            return Err(Fault::NoMemory);
+        }
+    }
     pool.run_until_stalled(2);
-    let is_released = semaphore.release_one(rt);
-    run(rt, pool, is_released)?;
-    Fault::unless(done.load(SeqCst) == 2)
-}
-
-impl<'a, R: Wait + AllocGlobal + 'a> Handed<'a, R> for &'a Arc<Semaphore<Bell>> {
-    type Wait = Acquires<'a, R>;
-
-    fn wait(self, rt: &'a R) -> Result<Acquires<'a, R>, Fault> {
-        let acquire = Arc::try_clone(self)?.acquire_owned(1);
-        match wait(rt, rt.alloc(), acquire) {
-            Ok(waiting) => Ok(Acquires {
-                semaphore: self,
-                acquire: waiting.try_holding(),
-            }),
-            Err(_) => Err(Fault::NoMemory),
-        }
-    }
-
-    fn release_one(self, rt: &R) -> bool {
-        self.release(rt, 1).is_ok()
-    }
-}
-
-#[derive(Drop)]
-struct Acquires<'a, R: Wait> {
-    semaphore: &'a Arc<Semaphore<Bell>>,
-    acquire: Acquiring<'a, R>,
-}
-
-impl<'a, R: Wait> Future for Acquires<'a, R> {
-    type Output = bool;
-
-    ghost can_poll = { λ a. IsSome a.acquire.waiting.wait };
-
-    fn poll(&mut self, cx: &mut Context<'_>) -> Poll<bool> {
-        match ready!(self.acquire.poll(cx)) {
-            Ok(had) => Poll::Ready(had.is_ok()),
-            Err(_) => Poll::Ready(false),
-        }
-    }
-}
-
-impl<'a, R: Wait> PermitWait for Acquires<'a, R> {
-    fn again(&mut self) -> bool {
-        match Arc::try_clone(self.semaphore) {
-            Ok(share) => {
-                self.acquire.restart(share.acquire_owned(1));
-                true
-            }
-            Err(_) => false,
-        }
-    }
-}
-
-impl<'a, R: 'a> Handed<'a, R> for &'a Arc<sync::Semaphore> {
-    type Wait = TokioAcquires<'a>;
-
-    fn wait(self, _rt: &'a R) -> Result<TokioAcquires<'a>, Fault> {
-        let share = Arc::try_clone(self)?;
-        Ok(TokioAcquires {
-            semaphore: self,
-            acquire: sync::Semaphore::acquire_owned(share),
-        })
-    }
-
-    fn release_one(self, _rt: &R) -> bool {
-        self.add_permits(1);
-        true
-    }
-}
-
-#[derive(Drop)]
-struct TokioAcquires<'a> {
-    semaphore: &'a Arc<sync::Semaphore>,
-    acquire: sync::AcquireOwned,
-}
-
-impl<'a> Future for TokioAcquires<'a> {
-    ghost use Rattle.tokio.specs.Locks.{CanAcquire};
-
-    type Output = bool;
-
-    ghost can_poll = { λ a. CanAcquire a.acquire };
-
-    fn poll(&mut self, cx: &mut Context<'_>) -> Poll<bool> {
-        let had = ready!(self.acquire.poll(cx));
-        Poll::Ready(had.is_ok())
-    }
-}
-
-impl<'a> PermitWait for TokioAcquires<'a> {
-    fn again(&mut self) -> bool {
-        match Arc::try_clone(self.semaphore) {
-            Ok(share) => {
-                self.acquire = sync::Semaphore::acquire_owned(share);
-                true
-            }
-            Err(_) => false,
-        }
+    semaphore.add_permits(1);
+    pool.run(rt);
+    if done.load(SeqCst) == 2 {
+        Ok(())
+    } else {
+        Err(Fault::Answer)
     }
 }

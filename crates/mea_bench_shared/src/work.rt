@@ -1,6 +1,5 @@
-use crate::across::{Locked, Lockless};
-use crate::fault::Fault;
-use crate::{across, alone, broadcasts, channels, gathered, locks, maps, sending, shots, tasks};
+use crate::{across, alone, channels, handover, sending, shots, tasks};
+use mea_bench_waits::{Fault, gathered, keeping, threads};
 use std::random::RandomSource;
 use std::sync::Wait;
 use std::thread::Threads;
@@ -132,34 +131,34 @@ impl Work {
     ) -> Result<(), Fault> {
         match self {
             Work::Permits => alone::permits(rt, rounds),
-            Work::Locks => locks::locks(rt, rounds),
+            Work::Locks => alone::locks(rt, rounds),
             Work::StdLocks => {
-                locks::std_locks(rt, rounds);
+                alone::std_locks(rt, rounds);
                 Ok(())
             }
-            Work::Handovers => locks::handovers(rt, rounds),
-            Work::StdHandovers => locks::std_handovers(rt, rounds),
+            Work::Handovers => handover::locks(rt, rounds),
+            Work::StdHandovers => handover::std_locks(rt, rounds),
             Work::OneSender => channels::messages(rt, rounds, 1),
             Work::FourSenders => channels::messages(rt, rounds, 4),
-            Work::Broadcasts => broadcasts::broadcasts(rt, rounds),
+            Work::Broadcasts => channels::broadcasts(rt, rounds),
             Work::Looks => alone::looks(rt, rounds),
             Work::Shots => shots::shots(rt, rounds),
             Work::LockedShots => shots::locked_shots(rt, rounds),
-            Work::ShotsAcross => across::shots::<R, Lockless>(rt, rounds),
-            Work::LockedShotsAcross => across::shots::<R, Locked>(rt, rounds),
+            Work::ShotsAcross => across::shots(rt, rounds),
+            Work::LockedShotsAcross => across::locked_shots(rt, rounds),
             Work::TaskPermits => tasks::permits(rt, rounds),
             Work::TokioPermits => tasks::tokio_permits(rt, rounds),
             Work::TaskMessages => sending::messages(rt, rounds),
             Work::TokioMessages => sending::tokio_messages(rt, rounds),
-            Work::ReadLocks => locks::read_locks(rt, rounds),
-            Work::Turns => locks::take_turns(rt, rounds),
+            Work::ReadLocks => threads::read_locks(rt, rounds),
+            Work::Turns => threads::take_turns(rt, rounds),
             Work::Latches => gathered::latches(rt, rounds),
             Work::Admissions => gathered::admissions(rt, rounds),
             Work::Flights => gathered::flights(rt, rounds),
-            Work::Maps => maps::maps(rt, rounds),
-            Work::GivenUp => alone::given_up(rt, rounds),
+            Work::Maps => keeping::maps(rt, rounds),
+            Work::GivenUp => keeping::given_up(rt, rounds),
             Work::Notified => gathered::notified(rt, rounds),
-            Work::Awaited => broadcasts::awaited(rt, rounds),
+            Work::Awaited => gathered::awaited(rt, rounds),
         }
     }
 }

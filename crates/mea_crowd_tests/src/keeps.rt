@@ -1,222 +1,85 @@
 //! Those of the crowd who want a value that is computed once.
-use crate::sets::{TASKS, run};
-use crate::tasks::{Kind, Tally};
-use crate::waits::{Computes, computing};
-use futures::task::Poll;
+ghost use Rattle.std.specs.Prelude.{◌≡◌, None, IsSomeAnd};
+
+use crate::crowd::{Member, Tasks};
+use crate::patience::Patience;
+use crate::spawns::{Tally, kind, spawn};
+use crate::tasks::{Awaits, Computes};
+use futures::Future;
+use futures::task::{Context, Poll};
 use futures::test::MockTask;
 use mea::once::{
-    CellClaim, CellClaiming, MapClaim, MapClaiming, Once, OnceCell, OnceClaim, OnceClaiming,
-    OnceMap,
+    CellClaim, CellClaiming, MapClaim, MapClaiming, MapFilling, Once, OnceCell, OnceClaim,
+    OnceClaiming, OnceMap,
 };
-use mea::singleflight::{Group, GroupClaim, GroupClaiming};
-use mea::{Claim, Claimed, End, Never, PollFault, Waits};
-use mea_futures::{Bell, Initialising, wait};
+use mea::singleflight::{Group, GroupClaim, GroupClaiming, GroupFilling};
+use mea::{Claim, Claimed, End, ReadyValue, Waits};
+use mea_futures::{Bell, Initialising, initialise, wait};
 use std::alloc::{AllocGlobal, Global};
 use std::hash::{BuildHasherDefault, FoldHasher};
 use std::process::Abort;
-use std::random::RandomSource;
 use std::sync::Wait;
 use std::sync::atomic::AtomicU64;
 use std::sync::atomic::Ordering::SeqCst;
-use std::thread;
-use std::thread::Threads;
 
 type Hasher = BuildHasherDefault<FoldHasher>;
 
-// How many keys there are.
-const KEYS: u64 = 3;
-
-// What is computed once. F is a wait for it, V what is had of it, C the turn to compute it, and T its value.
-trait Claims<F: Waits<Bell, Claimed<V, C>>, V, C, T> {
-    // A wait for the value, or for the turn to compute it.
-    fn claim(&self, number: u64) -> F
-        ensures { F.can_poll result };
-
-    // What the task with this number computes.
-    fn value(&self, number: u64) -> T;
-}
-
-// Those who want it.
+/// What they share.
 #[derive(Drop)]
-struct Wants<'a, R, M> {
-    rt: &'a R,
-    of: M,
-    computed: &'a AtomicU64,
-}
-
-// A wait for it, which computes it where nobody else does.
-type Inits<'a, R, F, V, C, T, G> = Initialising<'a, R, F, V, C, T, G, Computes<'a, T>>;
-
-impl<
-    'a,
-    R: Wait + AllocGlobal + Abort,
-    F: Waits<Bell, Claimed<V, C>>,
-    V,
-    C: Claim<T, V, G>,
-    T: Copy,
-    G: End,
-    M: Claims<F, V, C, T>,
-> Kind<Inits<'a, R, F, V, C, T, G>, Result<V, Never>> for Wants<'a, R, M> {
-    fn make(&self, number: u64) -> Inits<'a, R, F, V, C, T, G> {
-        let value = self.of.value(number);
-        computing(self.rt, self.of.claim(number), value, self.computed)
-    }
-}
-
-// Tasks that want it, and compute it so often.
-fn want<
-    R: Wait + Threads + Sync + RandomSource + AllocGlobal + Abort,
-    F: Waits<Bell, Claimed<V, C>> + Send,
-    V: Drop + Send,
-    C: Claim<T, V, G> + Send,
-    T: Copy + Send,
-    G: End + Send,
-    M: Claims<F, V, C, T> + Drop + Send + Sync,
->(rt: &R, of: M) -> u64 {
-    let computed = AtomicU64::new(0);
-    let wants = Wants {
-        rt,
-        of,
-        computed: &computed,
-    };
-    run::<R, Result<V, Never>, PollFault, Inits<'_, R, F, V, C, T, G>, Wants<'_, R, M>>(
-        rt,
-        &Tally::new(),
-        &wants,
-        TASKS,
-        TASKS,
-    );
-    computed.load(SeqCst)
-}
-
-// What they want.
-#[derive(Drop)]
-struct Keeps {
+pub(crate) struct Keeps {
     cell: OnceCell<u64, Bell>,
     once: Once<Bell>,
     map: OnceMap<u64, u64, Hasher, Bell>,
     flights: Group<u64, u64, Hasher, Bell>,
-}
-
-// The value of the cell.
-#[derive(Drop)]
-struct Fills<'a> {
-    cell: &'a OnceCell<u64, Bell>,
-}
-
-impl<'a> Claims<CellClaiming<'a, u64, Bell>, &'a u64, CellClaim<'a, u64, Bell>, u64> for Fills<'a> {
-    fn claim(&self, _number: u64) -> CellClaiming<'a, u64, Bell> {
-        self.cell.claim()
-    }
-
-    fn value(&self, _number: u64) -> u64 {
-        9
-    }
-}
-
-// A call that is made.
-#[derive(Drop)]
-struct Calls<'a> {
-    once: &'a Once<Bell>,
-}
-
-impl<'a> Claims<OnceClaiming<'a, Bell>, (), OnceClaim<'a, Bell>, ()> for Calls<'a> {
-    fn claim(&self, _number: u64) -> OnceClaiming<'a, Bell> {
-        self.once.claim()
-    }
-
-    fn value(&self, _number: u64) {}
-}
-
-// The value of a key.
-#[derive(Drop)]
-struct Maps<'a> {
-    map: &'a OnceMap<u64, u64, Hasher, Bell>,
-}
-
-impl<'a> Claims<
-    MapClaiming<'a, u64, u64, Hasher, Bell>,
-    u64,
-    MapClaim<'a, u64, u64, Hasher, Bell>,
-    u64,
-> for Maps<'a> {
-    fn claim(&self, number: u64) -> MapClaiming<'a, u64, u64, Hasher, Bell> {
-        self.map.claim(number % KEYS)
-    }
-
-    fn value(&self, number: u64) -> u64 {
-        number % KEYS
-    }
-}
-
-// A value which those who come meanwhile share.
-#[derive(Drop)]
-struct Flies<'a> {
-    flights: &'a Group<u64, u64, Hasher, Bell>,
-}
-
-impl<'a> Claims<
-    GroupClaiming<'a, u64, u64, Hasher, Bell>,
-    u64,
-    GroupClaim<'a, u64, u64, Hasher, Bell>,
-    u64,
-> for Flies<'a> {
-    fn claim(&self, number: u64) -> GroupClaiming<'a, u64, u64, Hasher, Bell> {
-        self.flights.claim(number % KEYS)
-    }
-
-    fn value(&self, number: u64) -> u64 {
-        number % KEYS
-    }
+    filled: AtomicU64,
+    called: AtomicU64,
+    mapped: AtomicU64,
+    flown: AtomicU64,
 }
 
 impl Keeps {
-    // Nothing computed.
-    fn new(alloc: Global) -> Self {
+    /// Nothing computed.
+    pub(crate) fn new(alloc: Global) -> Self {
         Keeps {
             cell: OnceCell::new(alloc),
             once: Once::new(alloc),
             map: OnceMap::new(alloc),
             flights: Group::new(alloc),
+            filled: AtomicU64::new(0),
+            called: AtomicU64::new(0),
+            mapped: AtomicU64::new(0),
+            flown: AtomicU64::new(0),
         }
     }
 
-    // Tasks that want the value of the cell, which is computed once.
-    fn fill<R: Wait + Threads + Sync + RandomSource + AllocGlobal + Abort>(&self, rt: &R) {
-        assert!(rt; want(rt, Fills { cell: &self.cell }) == 1);
-        assert!(rt; self.cell.get() == Some(&9));
-    }
-
-    // Tasks that want a call to be made, which is made once.
-    fn call<R: Wait + Threads + Sync + RandomSource + AllocGlobal + Abort>(&self, rt: &R) {
-        assert!(rt; want(rt, Calls { once: &self.once }) == 1);
-        assert!(rt; self.once.is_completed(rt));
-    }
-
-    // Tasks that want the value of a key, which is computed once for each of them.
-    fn map<R: Wait + Threads + Sync + RandomSource + AllocGlobal + Abort>(&self, rt: &R) {
-        assert!(rt; want(rt, Maps { map: &self.map }) == KEYS);
-        for key in 0..KEYS {
-            assert!(rt; self.map.get(rt, &key) == Ok(Some(key)));
+    /// Whether the cell is full, the call was made, and each of three keys has its value, each of them computed once.
+    pub(crate) fn are_kept<R: Wait>(&self, rt: &R) -> bool {
+        for key in 0..3u64 {
+            if self.map.get(rt, &key) != Ok(Some(key)) {
+                return false;
+            }
         }
+        self.cell.get() == Some(&9)
+            && self.once.is_completed(rt)
+            && self.filled.load(SeqCst) == 1
+            && self.called.load(SeqCst) == 1
+            && self.mapped.load(SeqCst) == 3
     }
 
-    // Tasks that want a value which those who come meanwhile share. In the end nobody computes one any more.
-    fn fly<R: Wait + Threads + Sync + RandomSource + AllocGlobal + Abort>(&self, rt: &R) {
-        let flies = Flies {
-            flights: &self.flights,
-        };
-        assert!(rt; want(rt, flies) >= KEYS);
-        let task = MockTask::new(rt).expect(rt, "memory");
-        for key in 0..KEYS {
-            assert!(rt; has_turn(rt, &task, self.flights.claim(key)));
-        }
+    /// Whether nobody computes this key of the group any more, so that a further call has its turn at once.
+    pub(crate) fn is_landed<R: Wait + AllocGlobal>(
+        &self,
+        rt: &R,
+        task: &MockTask,
+        key: u64,
+    ) -> bool {
+        has_turn(rt, task, self.flights.claim(key))
     }
 }
 
 // Whether a wait for a claim has its turn at its first poll. Then the turn is passed on.
-fn has_turn<R: Wait + AllocGlobal, F: Waits<Bell, Claimed<V, C>>, V: Drop, C: End>(
-    rt: &R,
+fn has_turn<'a, R: Wait + AllocGlobal + 'a, F: Waits<Bell, Claimed<V, C>>, V: Drop, C: End>(
+    rt: &'a R,
     task: &MockTask,
     claiming: F,
 ) -> bool
@@ -236,13 +99,114 @@ fn has_turn<R: Wait + AllocGlobal, F: Waits<Bell, Claimed<V, C>>, V: Drop, C: En
     }
 }
 
-/// Tasks that want what is computed once: a cell, a call, the values of a map and those of a group. In the end each value is
-/// there and was computed once, and nobody has a turn.
-pub(crate) fn run_keeps<R: Wait + Threads + Sync + RandomSource + AllocGlobal + Abort>(rt: &R) {
-    let keeps = Keeps::new(rt.alloc());
-    thread::join(
-        rt,
-        || thread::join(rt, || keeps.fill(rt), || keeps.call(rt)),
-        || thread::join(rt, || keeps.map(rt), || keeps.fly(rt)),
-    );
+// A task that waits for a value, and computes it where nobody else does.
+type Inits<'a, R, F, V, C, T, G> = Awaits<Initialising<'a, R, F, V, C, T, G, Computes<'a, T>>>;
+
+/// One that waits for the value of the cell.
+pub(crate) type Fills<'a, R> = Inits<
+    'a,
+    R,
+    CellClaiming<'a, u64, Bell>,
+    &'a u64,
+    CellClaim<'a, u64, Bell>,
+    u64,
+    ReadyValue<&'a u64>,
+>;
+
+/// One that waits until a call was made.
+pub(crate) type Calls<'a, R> = Inits<
+    'a,
+    R,
+    OnceClaiming<'a, Bell>,
+    (),
+    OnceClaim<'a, Bell>,
+    (),
+    ReadyValue<()>,
+>;
+
+/// One that waits for the value of a key.
+pub(crate) type Maps<'a, R> = Inits<
+    'a,
+    R,
+    MapClaiming<'a, u64, u64, Hasher, Bell>,
+    u64,
+    MapClaim<'a, u64, u64, Hasher, Bell>,
+    u64,
+    MapFilling<'a, u64, u64, Hasher, Bell>,
+>;
+
+/// One that waits for a value which those who come meanwhile share.
+pub(crate) type Flies<'a, R> = Inits<
+    'a,
+    R,
+    GroupClaiming<'a, u64, u64, Hasher, Bell>,
+    u64,
+    GroupClaim<'a, u64, u64, Hasher, Bell>,
+    u64,
+    GroupFilling<'a, u64, u64, Hasher, Bell>,
+>;
+
+/// A task that waits for what is computed once.
+#[derive(Drop)]
+pub(crate) enum KeepMember<'a, R: Wait> {
+    Fills(Fills<'a, R>),
+    Calls(Calls<'a, R>),
+    Maps(Maps<'a, R>),
+    Flies(Flies<'a, R>),
+}
+
+impl<'a, R: Wait> Future for KeepMember<'a, R> {
+    ghost use Rattle.mea_crowd_tests.specs.declared.keeps.KeepMember.TheVariants.{Fills, Calls, Maps, Flies};
+    ghost use Rattle.std.specs.Prelude.{IsSome, IfNone};
+
+    type Output = ();
+
+    ghost can_poll = { elim [ Fills a ↦ IfNone a.awaited.claim (IsSome a.awaited.turn.wait) | Calls a ↦ IfNone a.awaited.claim (IsSome a.awaited.turn.wait) | Maps a ↦ IfNone a.awaited.claim (IsSome a.awaited.turn.wait) | Flies a ↦ IfNone a.awaited.claim (IsSome a.awaited.turn.wait) ] };
+
+    fn poll(&mut self, cx: &mut Context<'_>) -> Poll<()> {
+        match self {
+            KeepMember::Fills(task) => task.poll(cx),
+            KeepMember::Calls(task) => task.poll(cx),
+            KeepMember::Maps(task) => task.poll(cx),
+            KeepMember::Flies(task) => task.poll(cx),
+        }
+    }
+}
+
+// A task that waits for a claim, or computes the value in two polls, and was never polled.
+fn computing<
+    'a,
+    R: Wait + AllocGlobal + Abort,
+    F: Waits<Bell, Claimed<V, C>>,
+    V,
+    C: Claim<T, V, G>,
+    T: Copy,
+    G: End,
+>(rt: &'a R, claiming: F, value: T, computed: &'a AtomicU64) -> Inits<'a, R, F, V, C, T, G>
+    requires { F.can_poll claiming }
+    ensures { (result.awaited.claim ≡ None) × IsSomeAnd result.awaited.turn.wait F.can_poll }
+{
+    let computes = Computes::new(value, computed);
+    let awaited = initialise(rt, rt.alloc(), claiming, computes).expect(rt, "memory");
+    Awaits { awaited }
+}
+
+/// Spawns the task with this number, that was never polled: of one of four kinds.
+pub(crate) fn spawn_keep<'a, R: Wait + AllocGlobal + Abort>(
+    rt: &'a R,
+    tasks: &Tasks<'a, R>,
+    tally: &'a Tally,
+    keeps: &'a Keeps,
+    number: u64,
+    patience: Patience,
+) {
+    let (kind, nth) = kind(number);
+    let key = nth % 3;
+    let task = match kind {
+        14 => KeepMember::Fills(computing(rt, keeps.cell.claim(), 9, &keeps.filled)),
+        15 => KeepMember::Calls(computing(rt, keeps.once.claim(), (), &keeps.called)),
+        16 => KeepMember::Maps(computing(rt, keeps.map.claim(key), key, &keeps.mapped)),
+        _ => KeepMember::Flies(computing(rt, keeps.flights.claim(key), key, &keeps.flown)),
+    };
+    spawn(rt, tasks, tally, Member::Keeps(task), patience);
 }

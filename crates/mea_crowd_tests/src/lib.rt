@@ -1,15 +1,13 @@
-//! A crowd of tasks over all primitives of `mea` at a time, by public contracts alone. The tasks of each kind are a set at which
-//! four threads work. Half of them are given up, in whatever stage they are then or with what they were just woken for.
+//! A crowd of tasks over all primitives of `mea` at a time, on four threads, by public contracts alone. Half of them are given
+//! up, in whatever stage they are then or with what they were just woken for.
 #![tactic(auto)]
 
 #[cfg(test)]
 mod channels;
 #[cfg(test)]
-mod condvars;
-#[cfg(test)]
 mod crowd;
 #[cfg(test)]
-mod holders;
+mod hearing;
 #[cfg(test)]
 mod keeps;
 #[cfg(test)]
@@ -21,12 +19,6 @@ mod oneshots;
 #[cfg(test)]
 mod patience;
 #[cfg(test)]
-mod permits;
-#[cfg(test)]
-mod posts;
-#[cfg(test)]
-mod sets;
+mod spawns;
 #[cfg(test)]
 mod tasks;
-#[cfg(test)]
-mod waits;

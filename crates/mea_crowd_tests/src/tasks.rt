@@ -1,199 +1,136 @@
-//! A task of any kind, generic in it: so the proof of a poll or a drop takes nothing apart.
-ghost use Rattle.std.specs.Prelude.{IfNone};
+//! Tasks that any wait or any receiver may have, generic in it: so the proof of a drop or a poll takes nothing apart.
+ghost use Rattle.std.specs.Prelude.{◌≡◌, None, IsSomeAnd, IfNone};
 
-use crate::holders::Holders;
-use crate::patience::Patience;
 use futures::task::{Context, Poll};
-use futures::{Future, ready};
+use futures::{Future, Stream, ready};
+use mea::{End, Never, PollFault, Waits};
+use mea_futures::{Bell, Holding, Kept, wait};
+use std::alloc::AllocGlobal;
 use std::process::Abort;
-use std::sync::Wait;
 use std::sync::atomic::AtomicU64;
 use std::sync::atomic::Ordering::SeqCst;
-use std::thread;
+use std::sync::{Arc, Wait};
 
-/// What tasks of one kind wait for, and what they do with what they are given. A is the future of a task, and P what it gives.
-pub(crate) trait Kind<A: Future, P> {
-    /// What the task with this number waits for, by a future that was never polled.
-    fn make(&self, number: u64) -> A
-        ensures { A.can_poll result };
-
-    /// How long the task with this number has patience.
-    fn patience(&self, number: u64) -> Patience {
-        Patience::of(number)
-    }
-
-    /// What a task notes as it is given something.
-    fn takes(&self, _given: &P) -> u64 {
-        0
-    }
-
-    /// What it does with that after it has yielded, by what it noted. One that is given up before does not.
-    fn leaves(&self, _given: &mut P, _noted: u64) {}
-}
-
-/// What the tasks of one kind did.
-#[derive(Drop)]
-pub(crate) struct Tally {
-    spawned: AtomicU64,
-    ended: AtomicU64,
-    // Where a poll was refused.
-    refused: AtomicU64,
-    holders: Holders,
-}
-
-impl Tally {
-    /// Nothing yet.
-    pub(crate) fn new() -> Self {
-        Tally {
-            spawned: AtomicU64::new(0),
-            ended: AtomicU64::new(0),
-            refused: AtomicU64::new(0),
-            holders: Holders::new(),
-        }
-    }
-
-    /// One more is spawned.
-    pub(crate) fn spawn(&self) {
-        self.spawned.fetch_add(1, SeqCst);
-    }
-
-    /// Lets others run until so many have ended.
-    pub(crate) fn await_ends<R: Wait>(&self, rt: &R, ends: u64) {
-        for _ in rt.forever() {
-            if self.ended.load(SeqCst) >= ends {
-                return;
-            }
-            thread::yield_now();
-        }
-    }
-
-    /// Checks that so many were spawned and all of them have ended, that no wait was refused, and that some were given what
-    /// they waited for, never more than so many at a time.
-    pub(crate) fn check<R: Abort>(&self, rt: &R, tasks: u64, most: u64) {
-        assert!(rt; self.spawned.load(SeqCst) == tasks && self.ended.load(SeqCst) == tasks);
-        assert!(rt; self.refused.load(SeqCst) == 0);
-        assert!(rt; self.holders.were_at_most(most));
-    }
-}
-
-// What one among those who hold something has.
-struct Held<'a, P: Drop> {
-    given: P,
-    holders: &'a Holders,
-}
-
-impl<'a, P: Drop> Drop for Held<'a, P> {
-    fn drop(self) {
-        let Held { given, holders } = self;
-        holders.leave();
-        drop(given);
-    }
+/// A further share.
+pub(crate) fn share<T: Drop>(rt: &impl Abort, of: &Arc<T>) -> Arc<T> {
+    Arc::try_clone(of).expect(rt, "memory")
 }
 
 /// A task that waits for something, yields with it, and then drops it.
 #[derive(Drop)]
-pub(crate) struct Uses<'a, A: Future, P: Drop, K> {
-    kind: &'a K,
-    awaited: A,
-    held: Option<Held<'a, P>>,
-    noted: u64,
-    tally: &'a Tally,
+pub(crate) struct Uses<F: Future, P> {
+    turn: F,
+    held: Option<P>,
 }
 
-impl<'a, P: Drop, E: Drop, A: Future<Output = Result<P, E>>, K: Kind<A, P>> Future
-    for Uses<'a, A, P, K> {
+/// A task that waits for what has to be spent, and ends it where it drops what it kept.
+pub(crate) type Spends<'a, R, F, O> = Uses<Holding<'a, R, F, O>, Kept<'a, R, O>>;
+
+/// One that was never polled.
+pub(crate) fn using<'a, R: Wait + AllocGlobal + Abort, F: Waits<Bell, O>, O: End>(
+    rt: &'a R,
+    turn: F,
+) -> Spends<'a, R, F, O>
+    requires { F.can_poll turn }
+    ensures { (result.held ≡ None) × IsSomeAnd result.turn.waiting.wait F.can_poll }
+{
+    let waiting = wait(rt, rt.alloc(), turn).expect(rt, "memory");
+    Uses {
+        turn: waiting.holding(),
+        held: None,
+    }
+}
+
+impl<P: Drop, F: Future<Output = Result<P, PollFault>>> Future for Uses<F, P> {
     type Output = ();
 
-    ghost can_poll = { λ u. IfNone u.held (A.can_poll u.awaited) };
+    ghost can_poll = { λ u. IfNone u.held (F.can_poll u.turn) };
 
     fn poll(&mut self, cx: &mut Context<'_>) -> Poll<()> {
-        if let Some(mut held) = self.held.take() {
-            self.kind.leaves(&mut held.given, self.noted);
+        if self.held.take().is_some() {
             return Poll::Ready(());
         }
-        match ready!(self.awaited.poll(cx)) {
-            Ok(given) => {
-                self.noted = self.kind.takes(&given);
-                self.tally.holders.enter();
-                self.held = Some(Held {
-                    given,
-                    holders: &self.tally.holders,
-                });
+        match ready!(self.turn.poll(cx)) {
+            Ok(held) => {
+                self.held = Some(held);
                 cx.yield_now()
             }
-            Err(_) => {
-                self.tally.refused.fetch_add(1, SeqCst);
-                Poll::Ready(())
-            }
+            Err(_) => Poll::Ready(()),
         }
     }
 }
 
-/// A task that is given up where its patience has gone.
+/// A task that waits for what it then drops.
 #[derive(Drop)]
-pub(crate) struct Impatient<'a, F: Future> {
-    task: F,
-    patience: Patience,
-    tally: &'a Tally,
+pub(crate) struct Awaits<F: Future> {
+    pub(crate) awaited: F,
 }
 
-impl<'a, F: Future<Output = ()>> Future for Impatient<'a, F> {
+impl<O: Drop, F: Future<Output = O>> Future for Awaits<F> {
     type Output = ();
 
-    ghost can_poll = { λ i. F.can_poll i.task };
+    ghost can_poll = { λ a. F.can_poll a.awaited };
 
     fn poll(&mut self, cx: &mut Context<'_>) -> Poll<()> {
-        if self.patience.is_gone() || self.task.poll(cx).is_ready() {
-            self.tally.ended.fetch_add(1, SeqCst);
-            return Poll::Ready(());
-        }
-        self.patience = self.patience.worn();
-        if self.patience.is_restless() {
-            cx.yield_now()
-        } else {
-            Poll::Pending
+        match self.awaited.poll(cx) {
+            Poll::Ready(_) => Poll::Ready(()),
+            Poll::Pending => Poll::Pending,
         }
     }
 }
 
-/// A task of the crowd.
-pub(crate) type Task<'a, A, P, K> = Impatient<'a, Uses<'a, A, P, K>>;
-
-/// The task of a kind with this number, that was never polled.
-pub(crate) fn task<'a, P: Drop, E: Drop, A: Future<Output = Result<P, E>>, K: Kind<A, P>>(
-    kind: &'a K,
-    tally: &'a Tally,
-    number: u64,
-) -> Task<'a, A, P, K>
-    ensures { IfNone result.task.held (A.can_poll result.task.awaited) }
-{
-    let uses = Uses {
-        kind,
-        awaited: kind.make(number),
-        held: None,
-        noted: 0,
-        tally,
-    };
-    Impatient {
-        task: uses,
-        patience: kind.patience(number),
-        tally,
-    }
-}
-
-/// A future, and what its task has until it ends.
+/// A task that takes messages until no more come.
 #[derive(Drop)]
-pub(crate) struct Beside<A: Future, H> {
-    pub(crate) awaited: A,
-    pub(crate) handle: H,
+pub(crate) struct Drains<'a, S: Stream> {
+    pub(crate) stream: S,
+    pub(crate) taken: &'a AtomicU64,
 }
 
-impl<A: Future, H: Drop> Future for Beside<A, H> {
-    type Output = A::Output;
+impl<'a, M: Drop, S: Stream<Item = M>> Future for Drains<'a, S> {
+    type Output = ();
 
-    ghost can_poll = { λ b. A.can_poll b.awaited };
+    ghost can_poll = { λ d. S.can_poll d.stream };
 
-    fn poll(&mut self, cx: &mut Context<'_>) -> Poll<A::Output> {
-        self.awaited.poll(cx)
+    fn poll(&mut self, cx: &mut Context<'_>) -> Poll<()> {
+        match self.stream.poll_next(cx) {
+            Poll::Ready(Some(_)) => {
+                self.taken.fetch_add(1, SeqCst);
+                cx.yield_now()
+            }
+            Poll::Ready(None) => Poll::Ready(()),
+            Poll::Pending => Poll::Pending,
+        }
+    }
+}
+
+/// A value that takes two polls, and is counted where it was computed.
+#[derive(Drop)]
+pub(crate) struct Computes<'a, T> {
+    value: T,
+    is_begun: bool,
+    computed: &'a AtomicU64,
+}
+
+impl<'a, T: Drop> Computes<'a, T> {
+    /// One that was never polled.
+    pub(crate) fn new(value: T, computed: &'a AtomicU64) -> Self {
+        Computes {
+            value,
+            is_begun: false,
+            computed,
+        }
+    }
+}
+
+impl<'a, T: Copy> Future for Computes<'a, T> {
+    type Output = Result<T, Never>;
+
+    fn poll(&mut self, cx: &mut Context<'_>) -> Poll<Result<T, Never>> {
+        if !self.is_begun {
+            self.is_begun = true;
+            return cx.yield_now();
+        }
+        self.computed.fetch_add(1, SeqCst);
+        Poll::Ready(Ok(self.value))
     }
 }

@@ -2,7 +2,7 @@ use Rattle.futures.specs.Task.{Keeps}
 use Rattle.mea_bench_shared.proofs.sending.TakesFuture.poll.Given as goal
 
 abbrev pub invariant-loop-self : goal.invariant-loop-self
-invariant-loop-self g l = g.S.Stream.can_poll l.self.stream × Keeps l.fn.cx l.cx
+invariant-loop-self g l = Keeps l.fn.cx l.cx
 
 abbrev pub decreases-loop-self : goal.decreases-loop-self
 decreases-loop-self g l = l.self.left

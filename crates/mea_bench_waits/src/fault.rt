@@ -32,11 +32,6 @@ impl Fault {
             Fault::NoMemory => 6,
         }
     }
-
-    /// A call answered what it should, or did not.
-    pub fn unless(is_right: bool) -> Result<(), Fault> {
-        if is_right { Ok(()) } else { Err(Fault::Answer) }
-    }
 }
 
 impl From<io::Error> for Fault {

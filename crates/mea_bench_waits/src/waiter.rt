@@ -1,5 +1,4 @@
 use crate::fault::Fault;
-use crate::sharing::shared;
 use mea::{Polled, Unpolled, Waits, Wake};
 use std::alloc::Global;
 use std::sync::atomic::AtomicBool;
@@ -24,14 +23,12 @@ pub struct Waiter {
 }
 
 impl Waiter {
-    ghost use Rattle.std.specs.Prelude.{IfOk};
-    ghost use Rattle.mea_wait.specs.Polls.{IfPending};
-
     /// One whose bell has not rung.
     pub fn new(alloc: Global) -> Result<Self, Fault> {
-        Ok(Waiter {
-            is_rung: shared(alloc, AtomicBool::new(false))?,
-        })
+        match Arc::new(alloc, AtomicBool::new(false)) {
+            Ok(is_rung) => Ok(Waiter { is_rung }),
+            Err(_) => Err(Fault::NoMemory),
+        }
     }
 
     /// What a wait gives, once it is ready.
@@ -40,46 +37,35 @@ impl Waiter {
     {
         let mut wait = wait;
         for _ in rt.forever() {
-            match self.poll(rt, wait)? {
-                Polled::Ready(output) => return Ok(output),
-                Polled::Pending(back) => wait = back,
+            let Ok(bell) = self.bell() else {
+                break;
+            };
+            match wait.poll(rt, bell) {
+                Ok(Polled::Ready(output)) => return Ok(output),
+                Ok(Polled::Pending(back)) => wait = back,
+                Err(
+                    Unpolled {
+                        future,
+                        waker: _,
+                        fault: _,
+                    },
+                ) => {
+                    future.end(rt);
+                    return Err(Fault::NoMemory);
+                }
             }
             self.rest(rt);
         }
-        unreachable!()
-    }
-
-    // Polls a wait once. One that is refused is ended.
-    pub(crate) fn poll<R: Wait, F: Waits<Bell, O>, O>(
-        &self,
-        rt: &R,
-        wait: F,
-    ) -> Result<Polled<F, O>, Fault>
-        requires { F.can_poll wait }
-        ensures { IfOk result (λ polled. IfPending polled F.can_poll) }
-    {
-        let Ok(bell) = self.bell() else {
-            wait.end(rt);
-            return Err(Fault::NoMemory);
-        };
-        match wait.poll(rt, bell) {
-            Ok(polled) => Ok(polled),
-            Err(
-                Unpolled {
-                    future,
-                    waker: _,
-                    fault: _,
-                },
-            ) => {
-                future.end(rt);
-                Err(Fault::NoMemory)
-            }
-        }
+        wait.end(rt);
+        Err(Fault::NoMemory)
     }
 
     /// A bell of this thread.
     pub fn bell(&self) -> Result<Bell, Fault> {
-        Ok(Bell(Arc::try_clone(&self.is_rung)?))
+        match Arc::try_clone(&self.is_rung) {
+            Ok(is_rung) => Ok(Bell(is_rung)),
+            Err(_) => Err(Fault::NoMemory),
+        }
     }
 
     /// Yields until the bell has rung.
