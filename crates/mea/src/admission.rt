@@ -26,7 +26,7 @@ pub struct FairShare<K: Eq + Hash, W, S: BuildHasher = BuildHasherDefault<FoldHa
     core: Mutex<FairCore<K, W, S>>,
 }
 
-// Written out: a derive is proved anew in each crate that hands one to a generic function.
+// Written out: a derived one is proved anew in each crate that hands a value of this type to a generic function.
 impl<K: Eq + Hash + Drop, W: Drop, S: BuildHasher + Drop> Drop for FairShare<K, W, S> {
     fn drop(self) {
         let FairShare { alloc: _, core: _ } = self;

@@ -25,7 +25,7 @@ impl<W> Model for Outbox<W> {
     ghost view = { λ o. record { wakers = o.wakers.items; spare = deque_capacity o.wakers - deque_len o.wakers } };
 }
 
-// Written out: a derive is proved anew in each crate that hands one to a generic function.
+// Written out: a derived one is proved anew in each crate that hands a value of this type to a generic function.
 impl<W: Drop> Drop for Outbox<W> {
     fn drop(self) {
         let Outbox { wakers: _ } = self;

@@ -25,7 +25,7 @@ impl<W> Model for Ready<W> {
     ghost invariant = { λ r. r.registered ≤ r.outbox.spare };
 }
 
-// Written out: a derive is proved anew in each crate that hands one to a generic function.
+// Written out: a derived one is proved anew in each crate that hands a value of this type to a generic function.
 impl<W: Drop> Drop for Ready<W> {
     fn drop(self) {
         let Ready {

@@ -48,7 +48,7 @@ impl<T> Model for WaitList<T> {
     } };
 }
 
-// Written out: a derive is proved anew in each crate that hands one to a generic function.
+// Written out: a derived one is proved anew in each crate that hands a value of this type to a generic function.
 impl<T: Drop> Drop for WaitList<T> {
     fn drop(self) {
         let WaitList {

@@ -1,4 +1,4 @@
-/// What a shell keeps of a task that waits, and calls once that task should poll again. Cores keep
+/// What stands for a task that waits: a shared type calls it once that task should poll again. Cores keep
 /// wakers of any type and never call them.
 ///
 /// A waker may be dropped at any time, also while a lock is held: to drop one wakes nobody, and calls

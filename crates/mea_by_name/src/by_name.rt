@@ -24,7 +24,7 @@ impl<X> Model for ByName<X> {
     ghost view = { λ m. kept m.map.entries };
 }
 
-// Written out: a derive is proved anew in each crate that hands one to a generic function.
+// Written out: a derived one is proved anew in each crate that hands a value of this type to a generic function.
 impl<X: Drop> Drop for ByName<X> {
     fn drop(self) {
         let ByName { map: _ } = self;

@@ -25,7 +25,7 @@ impl<X> Model for Roomy<X> {
     ghost view = { λ m. room_of m.map };
 }
 
-// Written out: a derive is proved anew in each crate that hands one to a generic function.
+// Written out: a derived one is proved anew in each crate that hands a value of this type to a generic function.
 impl<X: Drop> Drop for Roomy<X> {
     fn drop(self) {
         let Roomy { map: _ } = self;

@@ -65,7 +65,7 @@ impl Model for ChanFamily {
     ghost invariant = { λ a. AreBelow (parts a.kinds) a.next };
 }
 
-// Written out: a derive is proved anew in each crate that hands one to a generic function.
+// Written out: a derived one is proved anew in each crate that hands a value of this type to a generic function.
 impl Drop for ChanFamily {
     fn drop(self) {
         let ChanFamily { kinds: _, next: _ } = self;

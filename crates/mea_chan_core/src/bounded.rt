@@ -62,7 +62,7 @@ impl<T, W> Model for BoundedCore<T, W> {
     } };
 }
 
-// Written out: a derive is proved anew in each crate that hands one to a generic function.
+// Written out: a derived one is proved anew in each crate that hands a value of this type to a generic function.
 impl<T: Drop, W: Drop> Drop for BoundedCore<T, W> {
     fn drop(self) {
         let BoundedCore {

@@ -6,7 +6,7 @@ pub struct BoxCore<T> {
     content: Box<T>,
 }
 
-// Written out: a derive is proved anew in each crate that hands one to a generic function.
+// Written out: a derived one is proved anew in each crate that hands a value of this type to a generic function.
 impl<T: Drop> Drop for BoxCore<T> {
     fn drop(self) {
         let BoxCore { content: _ } = self;

@@ -7,7 +7,7 @@ pub struct OptionBoxCore<T> {
     content: Option<Box<T>>,
 }
 
-// Written out: a derive is proved anew in each crate that hands one to a generic function.
+// Written out: a derived one is proved anew in each crate that hands a value of this type to a generic function.
 impl<T: Drop> Drop for OptionBoxCore<T> {
     fn drop(self) {
         let OptionBoxCore { content: _ } = self;

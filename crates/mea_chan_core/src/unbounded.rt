@@ -37,7 +37,7 @@ impl<T, W> Model for UnboundedCore<T, W> {
     } };
 }
 
-// Written out: a derive is proved anew in each crate that hands one to a generic function.
+// Written out: a derived one is proved anew in each crate that hands a value of this type to a generic function.
 impl<T: Drop, W: Drop> Drop for UnboundedCore<T, W> {
     fn drop(self) {
         let UnboundedCore {

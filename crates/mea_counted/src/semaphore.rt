@@ -18,7 +18,7 @@ pub struct NamedSemaphore<L: Ledger> {
     state: Mutex<NamedState<L>>,
 }
 
-// Written out: a derive is proved anew in each crate that hands one to a generic function.
+// Written out: a derived one is proved anew in each crate that hands a value of this type to a generic function.
 impl<L: Ledger> Drop for NamedSemaphore<L> {
     fn drop(self) {
         let NamedSemaphore { state: _ } = self;

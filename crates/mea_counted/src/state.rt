@@ -48,7 +48,7 @@ impl<L: Ledger> Model for NamedState<L> {
     } };
 }
 
-// Written out: a derive is proved anew in each crate that hands one to a generic function.
+// Written out: a derived one is proved anew in each crate that hands a value of this type to a generic function.
 impl<L: Ledger> Drop for NamedState<L> {
     fn drop(self) {
         let NamedState {

@@ -1,4 +1,4 @@
--- what tells an event of a channel or a box from each other
+-- what tells one event of channels and boxes from another
 use Rattle.std.specs.Prelude.{ℕ, List, ◌∷◌, []}
 use Rattle.mea_events.specs.declared.chan_event.ChanEvent.{ChanEvent}
 use Rattle.mea_events.specs.declared.chan_event.ChanEvent.TheVariants as Chan

@@ -1,4 +1,4 @@
--- what tells an event of a lock or a condition variable from each other
+-- what tells one event of locks and condition variables from another
 use Rattle.std.specs.Prelude.{ℕ, List, ◌∷◌, []}
 use Rattle.mea_events.specs.declared.lock_event.LockEvent.{LockEvent}
 use Rattle.mea_events.specs.declared.lock_event.LockEvent.TheVariants as Lock

@@ -1,4 +1,4 @@
--- what tells an event of a meeting point from each other
+-- what tells one event of meeting points from another
 use Rattle.std.specs.Prelude.{ℕ, List, ◌∷◌, []}
 use Rattle.mea_events.specs.declared.meet_event.MeetEvent.{MeetEvent}
 use Rattle.mea_events.specs.declared.meet_event.MeetEvent.TheVariants as Meet

@@ -1,4 +1,4 @@
--- what tells an event of a once type from each other
+-- what tells one event of once types from another
 use Rattle.std.specs.Prelude.{ℕ, List, ◌∷◌, []}
 use Rattle.mea_events.specs.declared.once_event.OnceEvent.{OnceEvent}
 use Rattle.mea_events.specs.declared.once_event.OnceEvent.TheVariants as Once

@@ -1,4 +1,4 @@
--- what tells an event of a semaphore from each other
+-- what tells one event of semaphores from another
 use Rattle.std.specs.Prelude.{ℕ, List, ◌∷◌, []}
 use Rattle.mea_events.specs.declared.sem_event.SemEvent.{SemEvent}
 use Rattle.mea_events.specs.declared.sem_event.SemEvent.TheVariants as Sem

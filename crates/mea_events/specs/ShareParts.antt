@@ -1,4 +1,4 @@
--- what tells an event of fair admission from each other
+-- what tells one event of fair admission from another
 use Rattle.std.specs.Prelude.{ℕ, List, ◌∷◌, []}
 use Rattle.mea_events.specs.declared.share_event.ShareEvent.{ShareEvent}
 use Rattle.mea_events.specs.declared.share_event.ShareEvent.TheVariants as Share

@@ -32,7 +32,7 @@ impl<F: Family<H>, H> Model for FamilyHall<F, H> {
     } };
 }
 
-// Written out: a derive is proved anew in each crate that hands one to a generic function.
+// Written out: a derived one is proved anew in each crate that hands a value of this type to a generic function.
 impl<F: Family<H>, H> Drop for FamilyHall<F, H> {
     fn drop(self) {
         let FamilyHall {

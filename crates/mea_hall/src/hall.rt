@@ -43,7 +43,7 @@ impl Model for Hall {
     } };
 }
 
-// Written out: a derive is proved anew in each crate that hands one to a generic function.
+// Written out: a derived one is proved anew in each crate that hands a value of this type to a generic function.
 impl Drop for Hall {
     fn drop(self) {
         let Hall {

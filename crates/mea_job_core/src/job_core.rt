@@ -66,7 +66,7 @@ impl<W> Model for JobCore<W> {
     } };
 }
 
-// Written out: a derive is proved anew in each crate that hands one to a generic function.
+// Written out: a derived one is proved anew in each crate that hands a value of this type to a generic function.
 impl<W: Drop> Drop for JobCore<W> {
     fn drop(self) {
         let JobCore {

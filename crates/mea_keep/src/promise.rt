@@ -11,7 +11,7 @@ pub struct Promise<V, W> {
     waker: Option<W>,
 }
 
-// Written out: a derive is proved anew in each crate that hands one to a generic function.
+// Written out: a derived one is proved anew in each crate that hands a value of this type to a generic function.
 impl<V: Drop, W: Drop> Drop for Promise<V, W> {
     fn drop(self) {
         let Promise { value: _, waker: _ } = self;

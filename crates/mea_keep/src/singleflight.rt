@@ -19,7 +19,7 @@ pub struct Group<K: Eq + Hash, V, S: BuildHasher, W> {
     keyed: Keyed<Core<K, V, S, W>>,
 }
 
-// Written out: a derive is proved anew in each crate that hands one to a generic function.
+// Written out: a derived one is proved anew in each crate that hands a value of this type to a generic function.
 impl<K: Eq + Hash + Drop, V: Drop, S: BuildHasher + Drop, W: Drop> Drop for Group<K, V, S, W> {
     fn drop(self) {
         let Group { keyed: _ } = self;

@@ -12,7 +12,7 @@ pub struct Latch<W> {
     core: Mutex<CountSeats<W>>,
 }
 
-// Written out: a derive is proved anew in each crate that hands one to a generic function.
+// Written out: a derived one is proved anew in each crate that hands a value of this type to a generic function.
 impl<W: Drop> Drop for Latch<W> {
     fn drop(self) {
         let Latch { core: _ } = self;

@@ -14,7 +14,7 @@ pub struct ShutdownSend<W> {
     shared: Arc<Shared<W>>,
 }
 
-// Written out: a derive is proved anew in each crate that hands one to a generic function.
+// Written out: a derived one is proved anew in each crate that hands a value of this type to a generic function.
 impl<W: Drop> Drop for ShutdownSend<W> {
     fn drop(self) {
         let ShutdownSend { shared: _ } = self;
@@ -31,7 +31,7 @@ pub struct ShutdownWatch<W> {
     shared: Arc<Shared<W>>,
 }
 
-// Written out: a derive is proved anew in each crate that hands one to a generic function.
+// Written out: a derived one is proved anew in each crate that hands a value of this type to a generic function.
 impl<W: Drop> Drop for ShutdownWatch<W> {
     fn drop(self) {
         let ShutdownWatch { shared: _ } = self;
@@ -45,7 +45,7 @@ pub struct Shared<W> {
     receivers: Mutex<CountSeats<W>>,
 }
 
-// Written out: a derive is proved anew in each crate that hands one to a generic function.
+// Written out: a derived one is proved anew in each crate that hands a value of this type to a generic function.
 impl<W: Drop> Drop for Shared<W> {
     fn drop(self) {
         let Shared {

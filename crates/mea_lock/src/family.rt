@@ -59,7 +59,7 @@ impl Model for LockFamily {
     ghost invariant = { λ a. AreBelow a.kinds.mutexes a.kinds.rw_locks a.kinds.condvars a.next };
 }
 
-// Written out: a derive is proved anew in each crate that hands one to a generic function.
+// Written out: a derived one is proved anew in each crate that hands a value of this type to a generic function.
 impl Drop for LockFamily {
     fn drop(self) {
         let LockFamily { kinds: _, next: _ } = self;

@@ -32,7 +32,7 @@ impl<V, W> Model for MutexCore<V, W> {
     ghost invariant = { λ m. IsSound (record { permits = m.permits; value = m.value }) };
 }
 
-// Written out: a derive is proved anew in each crate that hands one to a generic function.
+// Written out: a derived one is proved anew in each crate that hands a value of this type to a generic function.
 impl<V: Drop, W: Drop> Drop for MutexCore<V, W> {
     fn drop(self) {
         let MutexCore {

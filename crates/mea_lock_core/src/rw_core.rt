@@ -36,7 +36,7 @@ impl<V, W> Model for RwCore<V, W> {
     ghost invariant = { λ m. IsSound (record { permits = m.permits; value = m.value; most = m.most; writing = m.writing }) };
 }
 
-// Written out: a derive is proved anew in each crate that hands one to a generic function.
+// Written out: a derived one is proved anew in each crate that hands a value of this type to a generic function.
 impl<V: Drop, W: Drop> Drop for RwCore<V, W> {
     fn drop(self) {
         let RwCore {

@@ -63,7 +63,7 @@ impl Model for MeetFamily {
     } };
 }
 
-// Written out: a derive is proved anew in each crate that hands one to a generic function.
+// Written out: a derived one is proved anew in each crate that hands a value of this type to a generic function.
 impl Drop for MeetFamily {
     fn drop(self) {
         let MeetFamily { kinds: _, next: _ } = self;

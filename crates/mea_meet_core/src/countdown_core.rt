@@ -27,7 +27,7 @@ impl<W, K> Model for CountdownCore<W, K> {
     ghost view = { λ c. c.countdown };
 }
 
-// Written out: a derive is proved anew in each crate that hands one to a generic function.
+// Written out: a derived one is proved anew in each crate that hands a value of this type to a generic function.
 impl<W: Drop, K> Drop for CountdownCore<W, K> {
     fn drop(self) {
         let CountdownCore {

@@ -1,6 +1,6 @@
 //! The meeting points' cores: a barrier, a latch, a wait group and a shutdown, as pure state that is
 //! changed by `&mut self`. They stand on the wait set and the countdown of `mea_sets` by their contracts
-//! alone; the shells of the meeting points, their hall and the once types stand on them.
+//! alone; the shared meeting points, their hall and the once types stand on them.
 #![tactic(auto)]
 
 mod barrier_core;

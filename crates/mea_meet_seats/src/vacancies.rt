@@ -25,7 +25,7 @@ impl<P> Model for Vacancies<P> {
     ghost view = { λ v. record { places = v.places.items; spare = deque_capacity v.places - deque_len v.places } };
 }
 
-// Written out: a derive is proved anew in each crate that hands one to a generic function.
+// Written out: a derived one is proved anew in each crate that hands a value of this type to a generic function.
 impl<P: Drop> Drop for Vacancies<P> {
     fn drop(self) {
         let Vacancies { places: _ } = self;

@@ -62,7 +62,7 @@ impl Model for OnceFamily {
     ghost invariant = { λ a. AreBelow (parts a.kinds.onces a.kinds.cells a.kinds.maps a.kinds.groups) a.next };
 }
 
-// Written out: a derive is proved anew in each crate that hands one to a generic function.
+// Written out: a derived one is proved anew in each crate that hands a value of this type to a generic function.
 impl Drop for OnceFamily {
     fn drop(self) {
         let OnceFamily { kinds: _, next: _ } = self;

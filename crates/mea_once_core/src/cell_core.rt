@@ -36,7 +36,7 @@ impl<T, W> Model for CellCore<T, W> {
     ghost invariant = { λ c. IsSound (record { value = c.value; permit = c.permit }) };
 }
 
-// Written out: a derive is proved anew in each crate that hands one to a generic function.
+// Written out: a derived one is proved anew in each crate that hands a value of this type to a generic function.
 impl<T: Drop, W: Drop> Drop for CellCore<T, W> {
     fn drop(self) {
         let CellCore {

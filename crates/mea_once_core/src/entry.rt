@@ -7,7 +7,7 @@ pub struct Entry<V, W> {
     pub(crate) place: Option<usize>,
 }
 
-// Written out: a derive is proved anew in each crate that hands one to a generic function.
+// Written out: a derived one is proved anew in each crate that hands a value of this type to a generic function.
 impl<V: Drop, W: Drop> Drop for Entry<V, W> {
     fn drop(self) {
         let Entry {

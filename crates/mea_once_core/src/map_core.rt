@@ -25,7 +25,7 @@ impl<K: Eq + Hash, V, S: BuildHasher, W> Model for MapCore<K, V, S, W> {
     ghost view = { λ m. m.keyed };
 }
 
-// Written out: a derive is proved anew in each crate that hands one to a generic function.
+// Written out: a derived one is proved anew in each crate that hands a value of this type to a generic function.
 impl<K: Eq + Hash + Drop, V: Drop, S: BuildHasher + Drop, W: Drop> Drop for MapCore<K, V, S, W> {
     fn drop(self) {
         let MapCore { keyed: _ } = self;

@@ -47,7 +47,7 @@ impl<W> Model for OnceCore<W> {
     } };
 }
 
-// Written out: a derive is proved anew in each crate that hands one to a generic function.
+// Written out: a derived one is proved anew in each crate that hands a value of this type to a generic function.
 impl<W: Drop> Drop for OnceCore<W> {
     fn drop(self) {
         let OnceCore {

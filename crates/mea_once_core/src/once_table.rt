@@ -37,7 +37,7 @@ impl<K: Eq + Hash, V, S: BuildHasher, W> Model for OnceTable<K, V, S, W> {
     ghost invariant = { λ t. AreLinked t.entries t.numbers.entries };
 }
 
-// Written out: a derive is proved anew in each crate that hands one to a generic function.
+// Written out: a derived one is proved anew in each crate that hands a value of this type to a generic function.
 impl<K: Eq + Hash + Drop, V: Drop, S: BuildHasher + Drop, W: Drop> Drop for OnceTable<K, V, S, W> {
     fn drop(self) {
         let OnceTable {

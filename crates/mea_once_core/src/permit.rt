@@ -26,7 +26,7 @@ impl<W> Model for Permit<W> {
     ghost invariant = { λ p. IsPermit p.sem };
 }
 
-// Written out: a derive is proved anew in each crate that hands one to a generic function.
+// Written out: a derived one is proved anew in each crate that hands a value of this type to a generic function.
 impl<W: Drop> Drop for Permit<W> {
     fn drop(self) {
         let Permit { sem: _ } = self;

@@ -28,6 +28,7 @@ pub data Meaning : Type 0 where
   OfCells : Doing → Meaning
   OfTables : KeyDoing → Meaning
 
+-- it is done to calls that run once, to cells, to maps, to groups
 abbrev pub on_onces : Action → Meaning
 on_onces a = OfCells (record { kind = Onces; action = a })
 

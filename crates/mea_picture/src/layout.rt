@@ -2,15 +2,15 @@ use mea_base::NoMemory;
 use mea_marks::{Ending, Past, Row, Sort, Thing, same};
 use std::alloc::Global;
 
-/// Where the names of rows begin, and where the first column does.
+/// Where the names of rows begin.
 pub const NAMES: u64 = 12;
-
+/// Where the first column begins.
 const LEFT: u64 = 250;
 /// How wide a column is.
 const COLUMN: u64 = 26;
-/// Where the lines of columns begin, and the first row.
+/// Where the lines of columns begin.
 pub const HEAD: u64 = 44;
-
+/// Where the first row begins.
 pub const TOP: u64 = 222;
 /// How high a row is.
 pub const ROW: u64 = 22;

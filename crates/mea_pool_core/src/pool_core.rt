@@ -42,7 +42,7 @@ impl<R, W> Model for PoolCore<R, W> {
     ghost invariant = { λ p. ArePool p.shelf p.places p.gate };
 }
 
-// Written out: a derive is proved anew in each crate that hands one to a generic function.
+// Written out: a derived one is proved anew in each crate that hands a value of this type to a generic function.
 impl<R: Drop, W: Drop> Drop for PoolCore<R, W> {
     fn drop(self) {
         let PoolCore {

@@ -41,7 +41,7 @@ impl Model for Recorded {
     ghost invariant = { λ r. IsKeptHistory r.hall (record { events = r.events.items; replies = r.replies.replies }) r.living (vec_capacity r.events - vec_len r.events) r.replies };
 }
 
-// Written out: a derive is proved anew in each crate that hands one to a generic function.
+// Written out: a derived one is proved anew in each crate that hands a value of this type to a generic function.
 impl Drop for Recorded {
     fn drop(self) {
         let Recorded {

@@ -25,7 +25,7 @@ pub struct RecordedSemaphore<L: Ledger> {
     pub(crate) permits: usize,
 }
 
-// Written out: a derive is proved anew in each crate that hands one to a generic function.
+// Written out: a derived one is proved anew in each crate that hands a value of this type to a generic function.
 impl<L: Ledger> Drop for RecordedSemaphore<L> {
     fn drop(self) {
         let RecordedSemaphore {

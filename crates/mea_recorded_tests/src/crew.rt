@@ -82,7 +82,7 @@ fn eight_workers(rt: HostRuntime) {
     assert!(rt; entries > 8000 && entries <= 16_001);
 }
 
-// What an event is told: its number, or why and where it is refused. It has no clauses, nor has what follows.
+// What an event is told: its number, or why and where it is refused. It has no clauses, nor has `entry` below.
 fn told(recorded: &mut Recorded, event: SemEvent) -> Result<u64, (Stop, u64)> {
     match recorded.act_on(&event) {
         Ok(receipt) => Ok(receipt.number),

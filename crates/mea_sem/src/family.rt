@@ -49,7 +49,7 @@ impl Model for SemFamily {
     ghost invariant = { λ a. AreKept (store_of (with_ended a.semaphores.entries a.ended.items) a.futures.entries a.permits.entries) a.next };
 }
 
-// Written out: a derive is proved anew in each crate that hands one to a generic function.
+// Written out: a derived one is proved anew in each crate that hands a value of this type to a generic function.
 impl Drop for SemFamily {
     fn drop(self) {
         let SemFamily {

@@ -34,7 +34,7 @@ impl Model for SemHall {
     ghost invariant = { λ a. a.ready.registered ≡ waiters a.family.hall };
 }
 
-// Written out: a derive is proved anew in each crate that hands one to a generic function.
+// Written out: a derived one is proved anew in each crate that hands a value of this type to a generic function.
 impl Drop for SemHall {
     fn drop(self) {
         let SemHall {

@@ -26,7 +26,7 @@ impl<W> Model for WaitSet<W> {
     ghost view = { λ s. record { wakers = s.wakers.items; drains = s.drains } };
 }
 
-// Written out: a derive is proved anew in each crate that hands one to a generic function.
+// Written out: a derived one is proved anew in each crate that hands a value of this type to a generic function.
 impl<W: Drop> Drop for WaitSet<W> {
     fn drop(self) {
         let WaitSet {

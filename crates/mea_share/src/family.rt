@@ -49,7 +49,7 @@ impl Model for ShareFamily {
     ghost view = { λ f. f.admissions };
 }
 
-// Written out: a derive is proved anew in each crate that hands one to a generic function.
+// Written out: a derived one is proved anew in each crate that hands a value of this type to a generic function.
 impl Drop for ShareFamily {
     fn drop(self) {
         let ShareFamily { admissions: _ } = self;

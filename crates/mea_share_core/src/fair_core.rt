@@ -45,7 +45,7 @@ impl<K: Eq + Hash, W, S: BuildHasher> Model for FairCore<K, W, S> {
     } };
 }
 
-// Written out: a derive is proved anew in each crate that hands one to a generic function.
+// Written out: a derived one is proved anew in each crate that hands a value of this type to a generic function.
 impl<K: Eq + Hash + Drop, W: Drop, S: BuildHasher + Drop> Drop for FairCore<K, W, S> {
     fn drop(self) {
         let FairCore {

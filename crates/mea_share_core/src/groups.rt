@@ -43,7 +43,7 @@ impl<K: Eq + Hash, W, S: BuildHasher> Model for Groups<K, W, S> {
     } };
 }
 
-// Written out: a derive is proved anew in each crate that hands one to a generic function.
+// Written out: a derived one is proved anew in each crate that hands a value of this type to a generic function.
 impl<K: Eq + Hash + Drop, W: Drop, S: BuildHasher + Drop> Drop for Groups<K, W, S> {
     fn drop(self) {
         let Groups {

@@ -11,6 +11,7 @@ use Rattle.mea_share_model.specs.Next.{share_at, waiting_in}
 use Rattle.mea_share_model.specs.Admissions as admissions
 use Rattle.mea_share_model.specs.Admissions.{ShareHall, ShareFuture, is_named, is_future, is_permit, plain_of}
 
+-- what an event does to admissions
 pub data Action : Type 0 where
   -- an admission with so many permits
   Make : ℕ → Action
@@ -36,6 +37,7 @@ pub data Action : Type 0 where
 abbrev pub zero_by : Bool → ℕ → Option Stop
 zero_by known n = if known then (if n == 0 then Some stops.Zero else None) else Some stops.Unknown
 
+-- why it is refused
 abbrev pub cause_in : ShareHall → Action → Option Stop
 cause_in h (Make n) = if n == 0 then Some stops.Zero else None
 cause_in h (Free o) = unknown_unless (is_named h o)

@@ -7,6 +7,7 @@ use Rattle.mea_events.specs.declared.share_event.ShareEvent.TheVariants.{FsNew, 
 use Rattle.mea_share_model.specs.Admissions.{ShareHall}
 use Rattle.mea_share_model.specs.Actions.{Action, Make, Free, Waiters, Weight, Weigh, Try, Begin, Poll, Key, End, Drop, cause_in, act_in, registers_in}
 
+-- what each line means
 abbrev pub meaning_of : ShareEvent → Action
 meaning_of (FsNew n) = Make n
 meaning_of (FsFree s) = Free s

@@ -23,7 +23,7 @@ pub struct Pool<T, W> {
     pub(crate) core: Mutex<PoolCore<T, W>>,
 }
 
-// Written out: a derive is proved anew in each crate that hands one to a generic function.
+// Written out: a derived one is proved anew in each crate that hands a value of this type to a generic function.
 impl<T: Drop, W: Drop> Drop for Pool<T, W> {
     fn drop(self) {
         let Pool { core: _ } = self;

@@ -22,7 +22,7 @@ pub struct Condvar<W> {
     core: Mutex<CondvarCore<W>>,
 }
 
-// Written out: a derive is proved anew in each crate that hands one to a generic function.
+// Written out: a derived one is proved anew in each crate that hands a value of this type to a generic function.
 impl<W: Drop> Drop for Condvar<W> {
     fn drop(self) {
         let Condvar { core: _ } = self;

@@ -21,7 +21,7 @@ pub struct Mutex<T, W> {
     pub(crate) core: sync::Mutex<MutexState<T, W>>,
 }
 
-// Written out: a derive is proved anew in each crate that hands one to a generic function.
+// Written out: a derived one is proved anew in each crate that hands a value of this type to a generic function.
 impl<T: Drop, W: Drop> Drop for Mutex<T, W> {
     fn drop(self) {
         let Mutex { core: _ } = self;

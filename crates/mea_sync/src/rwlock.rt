@@ -32,7 +32,7 @@ pub struct RwLock<T, W> {
     core: Mutex<RwLockState<T, W>>,
 }
 
-// Written out: a derive is proved anew in each crate that hands one to a generic function.
+// Written out: a derived one is proved anew in each crate that hands a value of this type to a generic function.
 impl<T: Drop, W: Drop> Drop for RwLock<T, W> {
     fn drop(self) {
         let RwLock { core: _ } = self;

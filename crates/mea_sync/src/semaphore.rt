@@ -35,7 +35,7 @@ pub struct Semaphore<W> {
     core: Mutex<SemCore<W>>,
 }
 
-// Written out: a derive is proved anew in each crate that hands one to a generic function.
+// Written out: a derived one is proved anew in each crate that hands a value of this type to a generic function.
 impl<W: Drop> Drop for Semaphore<W> {
     fn drop(self) {
         let Semaphore { name: _, core: _ } = self;

@@ -56,7 +56,7 @@ impl Model for Executor {
     ghost invariant = { λ e. IsKept (record { hall = e.hall.hall; events = e.events; semaphores = e.semaphores.items; tasks = e.tasks.items; queue = e.queue.tasks; running = e.running; polls = e.polls; added = e.added; allowance = e.allowance }) e.hall e.queue.room };
 }
 
-// Written out: a derive is proved anew in each crate that hands one to a generic function.
+// Written out: a derived one is proved anew in each crate that hands a value of this type to a generic function.
 impl Drop for Executor {
     fn drop(self) {
         let Executor {

@@ -9,7 +9,7 @@ pub struct AtomicBox<T> {
     core: Mutex<BoxCore<T>>,
 }
 
-// Written out: a derive is proved anew in each crate that hands one to a generic function.
+// Written out: a derived one is proved anew in each crate that hands a value of this type to a generic function.
 impl<T: Drop> Drop for AtomicBox<T> {
     fn drop(self) {
         let AtomicBox { core: _ } = self;

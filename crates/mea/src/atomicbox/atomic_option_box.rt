@@ -7,7 +7,7 @@ pub struct AtomicOptionBox<T> {
     core: Mutex<OptionBoxCore<T>>,
 }
 
-// Written out: a derive is proved anew in each crate that hands one to a generic function.
+// Written out: a derived one is proved anew in each crate that hands a value of this type to a generic function.
 impl<T: Drop> Drop for AtomicOptionBox<T> {
     fn drop(self) {
         let AtomicOptionBox { core: _ } = self;

@@ -17,7 +17,7 @@ pub struct Once<W> {
     calls: Mutex<Calls<W>>,
 }
 
-// Written out: a derive is proved anew in each crate that hands one to a generic function.
+// Written out: a derived one is proved anew in each crate that hands a value of this type to a generic function.
 impl<W: Drop> Drop for Once<W> {
     fn drop(self) {
         let Once { calls: _ } = self;

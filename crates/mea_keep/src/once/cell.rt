@@ -25,7 +25,7 @@ pub struct OnceCell<T, W> {
     value: OnceLock<T>,
 }
 
-// Written out: a derive is proved anew in each crate that hands one to a generic function.
+// Written out: a derived one is proved anew in each crate that hands a value of this type to a generic function.
 impl<T: Drop, W: Drop> Drop for OnceCell<T, W> {
     fn drop(self) {
         let OnceCell {

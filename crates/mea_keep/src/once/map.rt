@@ -23,7 +23,7 @@ pub struct OnceMap<K: Eq + Hash, V, S: BuildHasher, W> {
     removals: AtomicU64,
 }
 
-// Written out: a derive is proved anew in each crate that hands one to a generic function.
+// Written out: a derived one is proved anew in each crate that hands a value of this type to a generic function.
 impl<K: Eq + Hash + Drop, V: Drop, S: BuildHasher + Drop, W: Drop> Drop for OnceMap<K, V, S, W> {
     fn drop(self) {
         let OnceMap {

@@ -19,7 +19,7 @@ struct Shared<T, W> {
     core: Mutex<BroadcastCore<T, W>>,
 }
 
-// Written out: a derive is proved anew in each crate that hands one to a generic function.
+// Written out: a derived one is proved anew in each crate that hands a value of this type to a generic function.
 impl<T: Drop, W: Drop> Drop for Shared<T, W> {
     fn drop(self) {
         let Shared { core: _ } = self;
@@ -48,7 +48,7 @@ impl<T, W> Model for Receiver<T, W> {
     ghost view = { λ r. r.cursor.position };
 }
 
-// Written out: a derive is proved anew in each crate that hands one to a generic function.
+// Written out: a derived one is proved anew in each crate that hands a value of this type to a generic function.
 impl<T: Drop, W: Drop> Drop for Receiver<T, W> {
     fn drop(self) {
         let Receiver {

@@ -15,7 +15,7 @@ struct Shared<T, W> {
     core: Mutex<UnboundedCore<T, W>>,
 }
 
-// Written out: a derive is proved anew in each crate that hands one to a generic function.
+// Written out: a derived one is proved anew in each crate that hands a value of this type to a generic function.
 impl<T: Drop, W: Drop> Drop for Shared<T, W> {
     fn drop(self) {
         let Shared { core: _ } = self;
