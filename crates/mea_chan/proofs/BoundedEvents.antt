@@ -39,6 +39,7 @@ use Rattle.mea_chan_model.specs.MailboxActions.{Action, act_in}
 use Rattle.mea_chan_model.specs.Bounded as model
 use Rattle.mea_chan_model.specs.Bounded.{Bounded, Room, BoundedSend, registered, is_full, is_send, no_bounded}
 use Rattle.mea_chan_model.specs.BoundedActions.{BoundedAction, CopySender, TrySend, TryReceive, PollReceive, DropSender, bounded_act, bounded_cause}
+use Rattle.mea_chan_model.specs.Sends.{granted_at, granted_of, queue_in}
 use Rattle.mea_chan_model.specs.Valid.{AreValid}
 use Rattle.mea_cores_by_name.specs.Linked.{names_in, AreOf, Linked}
 use Rattle.mea_chan.specs.declared.receiver_entry.ReceiverEntry.{ReceiverEntry}
@@ -50,6 +51,7 @@ use Rattle.mea_chan.specs.BoundedParts.{room_seen, send_seen, channel_of_sender,
 use Rattle.mea_chan.specs.BoundedLends.{StandsForBounded}
 use Rattle.mea_chan.specs.MailboxParts.{channel_seen, receiver_seen, mailboxes_seen, AreKeptMailboxes, of_sender as mine}
 use Rattle.mea_chan.proofs.BoundedSteps.{made, left}
+use Rattle.mea_chan.proofs.BoundedGrants.{own_granted, all_granted}
 use Rattle.mea_chan.proofs.OneChannel as one
 use Rattle.mea_chan.proofs.MailboxEvents as mail
 use Rattle.mea_chan.proofs.MailboxEvents.{Site}
@@ -102,10 +104,12 @@ module _ {old : Part Bounded} (cs : Names NamedChannel) (ss : Names SenderEntry)
   pub channel_is : (o : ℕ) (p : Option NamedChannel) → get cs o ≡ p → is_some p ≡ is_channel old.hall.mail o
   channel_is o p is = sym (is_some-map as_mailbox p) ∙ mail.channel_is (seen as_mailbox cs) (seen channel_of_sender ss) rs next mail_view o (option_map as_mailbox p) (get-seen (λ k c. as_mailbox c) cs o ∙ ap (option_map as_mailbox) is)
 
-  pub stands_for_it : (o : ℕ) (c : NamedChannel) → get cs o ≡ Some c → StandsForBounded old.hall o c
-  stands_for_it o c there = record {
+  pub stands_for_it : IsKeptBounded cs ss rs xs next → (o : ℕ) (c : NamedChannel) → get cs o ≡ Some c → StandsForBounded old.hall o c
+  stands_for_it kept o c there = record {
     mailbox = ap (λ (p : Part Bounded). get p.hall.mail.channels o) (sym view) ∙ seen-at channel_seen (seen as_mailbox cs) o (as_mailbox c) (seen-at as_mailbox cs o c there);
     room = ap (λ (p : Part Bounded). get p.hall.rooms o) (sym view) ∙ seen-at room_seen cs o c there;
+    granted = λ is. ap (λ (p : Part Bounded). granted_at p.hall o) (sym view) ∙ ap (λ r. granted_of (queue_in r) (seen send_seen xs) o) (seen-at room_seen cs o c there)
+        ∙ all_granted c xs o ∙ own_granted c (own of_channel o xs) (kept.linked.each o c there).linked is;
   }
 
   pub sender_is : (s : ℕ) (p : Option SenderEntry) → get ss s ≡ p → is_some p ≡ is_sender old.hall.mail s

@@ -1,5 +1,6 @@
 pub mod OneChannel
 pub mod BoundedSteps
+mod BoundedGrants
 pub mod MailboxEvents
 pub mod BoundedEvents
 pub mod BoundedEnds

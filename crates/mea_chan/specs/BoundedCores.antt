@@ -1,8 +1,10 @@
 -- what a hall keeps of bounded channels, and what the calls of their cores do
 use Rattle.std.specs.Prelude.{ℕ, ◌≡◌, ◌+◌, ◌++◌, [], length, map, Option, Some, option_to_list, Result, Ok, Err}
+use Rattle.std.specs.Coded.{Coded, coded_ℕ}
 use Rattle.std.specs.Option.{option_map}
 use Rattle.mea_base.specs.declared.poll.Poll.{Poll}
 use Rattle.mea_base.specs.Ready.{Waking}
+use Rattle.mea_by_name.specs.NamedWaker.{waker_code}
 use Rattle.mea_by_name.specs.declared.named_waker.NamedWaker.{NamedWaker}
 use Rattle.mea_sem_core.specs.Acquire.{demand_of}
 use Rattle.mea_sem_core.specs.declared.acquire.Acquire.{Acquire}
@@ -14,13 +16,17 @@ use Rattle.mea_family.specs.declared.answer.Answer.{Answer}
 use Rattle.mea_family.specs.declared.answer.Answer.TheVariants as answers
 use Rattle.mea_chan_core.specs.declared.errors.TryRecvError.{TryRecvError}
 use Rattle.mea_chan_core.specs.declared.errors.TryRecvError.TheVariants as try
-use Rattle.mea_chan_core.specs.Channel.{Channel}
+use Rattle.mea_chan_core.specs.Channel.{Channel, channel_code}
 use Rattle.mea_chan_core.specs.Bounded.{PollsSend, after_recv}
 use Rattle.mea_chan.specs.Cores.{Mailbox}
 
 -- a bounded channel whose wakers carry the names of their futures and receivers
 abbrev pub NamedChannel : Type 0
 NamedChannel = Channel ℕ NamedWaker
+
+-- by which a proof tells two of them apart
+abbrev pub named_channel_code : Coded NamedChannel
+named_channel_code = channel_code coded_ℕ waker_code
 
 -- the same as a mailbox
 abbrev pub as_mailbox : NamedChannel → Mailbox

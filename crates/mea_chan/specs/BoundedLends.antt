@@ -1,7 +1,9 @@
 -- the bounded channel that a hall lends
 use Rattle.std.specs.Prelude.{ℕ, ◌≡◌, Some}
-use Rattle.std.specs.FinMap.{get}
+use Rattle.std.specs.FinMap.{get, len}
+use Rattle.mea_chan_core.specs.Woken.{IsChannel}
 use Rattle.mea_chan_model.specs.Bounded.{Bounded}
+use Rattle.mea_chan_model.specs.Sends.{granted_at}
 use Rattle.mea_chan.specs.BoundedCores.{NamedChannel, as_mailbox}
 use Rattle.mea_chan.specs.MailboxParts.{channel_seen}
 use Rattle.mea_chan.specs.BoundedParts.{room_seen}
@@ -11,3 +13,5 @@ use Rattle.mea_chan.specs.BoundedParts.{room_seen}
 pub record StandsForBounded (h : Bounded) (o : ℕ) (c : NamedChannel) : Type 0 where
   pub mailbox : get h.mail.channels o ≡ Some (channel_seen (as_mailbox c))
   pub room : get h.rooms o ≡ Some (room_seen c)
+  -- as many sends were granted a place and not polled since; that the core is a channel, its call `queue_len` tells
+  pub granted : IsChannel c → granted_at h o ≡ len c.waiting.granted

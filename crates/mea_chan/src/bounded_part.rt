@@ -9,9 +9,7 @@ ghost use Rattle.mea_chan.specs.BoundedLends.{StandsForBounded};
 ghost use Rattle.mea_chan.specs.BoundedCores.{tried_told, ready_told};
 
 use crate::actions::BoundedAction;
-use crate::bounded_calls::{
-    end_receiver, end_send, end_sender, is_over, poll_receive, poll_send, receive, try_send,
-};
+use crate::bounded_entry::BoundedEntry;
 use crate::receiver_entry::{ReceiverEntry, poll_told, receiver_in, told};
 use crate::send_entry::SendEntry;
 use crate::sender_entry::SenderEntry;
@@ -26,7 +24,7 @@ use std::marker::Model;
 /// costs a few look-ups by name and the wakers that it makes ready.
 #[derive(Drop)]
 pub struct BoundedPart {
-    channels: ByName<BoundedCore<u64, NamedWaker>>,
+    channels: ByName<BoundedEntry>,
     senders: ByName<SenderEntry>,
     receivers: ByName<ReceiverEntry>,
     sends: ByName<SendEntry>,
@@ -70,8 +68,8 @@ impl BoundedPart {
         ensures there { is_some result ≡ is_channel self.now.hall.mail o }
         ensures stands { IfSome result (λ core. StandsForBounded self.now.hall o core.now) }
     {
-        let core = self.channels.get(o)?;
-        Some(core)
+        let entry = self.channels.get(o)?;
+        Some(entry.core())
     }
 
     /// The channels have the senders and receivers that live. It does nothing.
@@ -117,7 +115,7 @@ impl BoundedPart {
             BoundedAction::CopySender(s) => self.copy(number, s, ready),
             BoundedAction::TrySend(s, message) => self.try_send(number, s, message, ready),
             BoundedAction::BeginSend(s, message) => self.begin(number, s, message, ready),
-            BoundedAction::PollSend(f, waker) => self.poll(number, f, waker, ready),
+            BoundedAction::PollSend(f, waker) => self.poll_send(number, f, waker, ready),
             BoundedAction::EndSend(f) => self.end_send(number, f, ready),
             BoundedAction::TryReceive(r) => self.receive(number, r, ready),
             BoundedAction::PollReceive(r, waker) => self.poll_receive(number, r, waker, ready),
@@ -151,7 +149,7 @@ impl BoundedPart {
         ensures tells { result ≢ Some Stop.NoMemory }
     {
         match self.senders.get(s) {
-            Some(sender) => overflow_if(self.channels.at(sender.channel).senders() == usize::MAX),
+            Some(sender) => overflow_if(self.channels.at(sender.channel).is_crowded()),
             None => Some(Stop::Unknown),
         }
     }
@@ -178,20 +176,20 @@ impl BoundedPart {
         let Ok(core) = BoundedCore::new(self.alloc, capacity as usize) else {
             return Err(Stop::NoMemory);
         };
-        self.place(number, core, capacity, ready)
+        self.place(number, BoundedEntry::new(core), capacity, ready)
     }
 
-    // Puts a new core, with a sender and a receiver.
+    // Puts a new channel, with a sender and a receiver.
     fn place(
         &mut self,
         number: u64,
-        core: BoundedCore<u64, NamedWaker>,
+        entry: BoundedEntry,
         capacity: u64,
         ready: &mut Ready<u64>,
     ) -> Result<Answer, Stop>
         requires next { self.old.next ≤ number }
         requires some { 0 < capacity }
-        requires new { core ≡ record { queued = []; capacity = capacity; senders = 1; ended = false; waker = None; waiting = no_senders; wakes = [] } }
+        requires new { entry ≡ record { queued = []; capacity = capacity; senders = 1; ended = false; waker = None; waiting = no_senders; wakes = [] } }
         ensures { BoundedActs self.old number (MakeRoom capacity) result self.new ready.old ready.new }
     {
         // That the registered wakers have a number that fits is known by a look at it.
@@ -211,7 +209,7 @@ impl BoundedPart {
             let _ = self.senders.remove(number);
             return Err(Stop::NoMemory);
         };
-        let Ok(()) = self.channels.insert(number, core) else {
+        let Ok(()) = self.channels.insert(number, entry) else {
             let _ = self.senders.remove(number);
             let _ = self.receivers.remove(number);
             return Err(Stop::NoMemory);
@@ -237,7 +235,7 @@ impl BoundedPart {
         else {
             return Err(Stop::NoMemory);
         };
-        let _ = self.channels.at_mut(channel).add_sender();
+        self.channels.at_mut(channel).add_sender();
         self.next = number as u128 + 1;
         Ok(Answer::Made)
     }
@@ -257,7 +255,10 @@ impl BoundedPart {
         let Some(sender) = self.senders.get(s) else {
             return Err(Stop::Unknown);
         };
-        let sent = try_send(self.channels.at_mut(sender.channel), message, ready);
+        let sent = self
+            .channels
+            .at_mut(sender.channel)
+            .try_send(message, ready);
         self.next = number as u128 + 1;
         Ok(tried_told(sent))
     }
@@ -288,7 +289,7 @@ impl BoundedPart {
     }
 
     // Polls a send. On an error nothing has changed.
-    fn poll(
+    fn poll_send(
         &mut self,
         number: u64,
         f: u64,
@@ -303,8 +304,8 @@ impl BoundedPart {
             return Err(Stop::Unknown);
         };
         let s = send.sender();
-        let core = self.channels.at_mut(send.channel());
-        let Ok(turn) = poll_send(core, f, send, waker, ready) else {
+        let entry = self.channels.at_mut(send.channel());
+        let Ok(turn) = entry.poll_send(f, send, waker, ready) else {
             return Err(Stop::NoMemory);
         };
         self.next = number as u128 + 1;
@@ -328,7 +329,7 @@ impl BoundedPart {
             return Err(Stop::Unknown);
         };
         let s = send.sender();
-        end_send(self.channels.at_mut(send.channel()), send, ready);
+        self.channels.at_mut(send.channel()).end_send(send, ready);
         self.senders.at_mut(s).sends -= 1;
         self.next = number as u128 + 1;
         Ok(Answer::Done)
@@ -343,7 +344,7 @@ impl BoundedPart {
         let Some(receiver) = receiver_in(&self.receivers, r, true) else {
             return Err(Stop::Unknown);
         };
-        let received = receive(self.channels.at_mut(receiver.channel), ready);
+        let received = self.channels.at_mut(receiver.channel).receive(ready);
         self.next = number as u128 + 1;
         Ok(told(received))
     }
@@ -363,8 +364,8 @@ impl BoundedPart {
         let Some(receiver) = receiver_in(&self.receivers, r, true) else {
             return Err(Stop::Unknown);
         };
-        let core = self.channels.at_mut(receiver.channel);
-        let Ok(received) = poll_receive(core, r, waker, ready) else {
+        let entry = self.channels.at_mut(receiver.channel);
+        let Ok(received) = entry.poll_receive(r, waker, ready) else {
             return Err(Stop::NoMemory);
         };
         self.next = number as u128 + 1;
@@ -381,9 +382,9 @@ impl BoundedPart {
             return Err(stop);
         }
         let o = self.senders.remove(s).channel;
-        let core = self.channels.at_mut(o);
-        end_sender(core, ready);
-        let over = is_over(core);
+        let entry = self.channels.at_mut(o);
+        entry.end_sender(ready);
+        let over = entry.is_over();
         self.channels.remove_if(o, over);
         self.next = number as u128 + 1;
         Ok(Answer::Done)
@@ -400,9 +401,9 @@ impl BoundedPart {
         };
         let _ = self.receivers.remove(r);
         let o = receiver.channel;
-        let core = self.channels.at_mut(o);
-        end_receiver(core, ready);
-        let over = is_over(core);
+        let entry = self.channels.at_mut(o);
+        entry.end_receiver(ready);
+        let over = entry.is_over();
         self.channels.remove_if(o, over);
         self.next = number as u128 + 1;
         Ok(Answer::Done)

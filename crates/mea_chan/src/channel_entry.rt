@@ -53,7 +53,7 @@ impl<C: MailboxCore> ChannelEntry<C> {
         ensures wakers { ready.new.wakers ≡ ready.old.wakers ++ self.old.wakes }
         ensures counted { ready.new.registered + before ≡ ready.old.registered + kept self.old }
     {
-        let mut gone = before - self.core.waiting();
+        let mut gone = before - self.core.kept_wakers();
         while let Some(waker) = self.core.next_wake() {
             ready.wake(waker);
             gone -= 1;
@@ -76,12 +76,12 @@ impl<C: MailboxCore> ChannelEntry<C> {
         ensures err { OnErr result ((self.new ≡ self.old) × (ready.new ≡ ready.old)) }
     {
         ready.register()?;
-        let before = self.core.waiting();
+        let before = self.core.kept_wakers();
         let Ok(received) = self.core.recv(waker) else {
             ready.unregister(1);
             return Err(NoMemory);
         };
-        let now = self.core.waiting();
+        let now = self.core.kept_wakers();
         ready.unregister(1 + before - now);
         Ok(poll_told(received))
     }
@@ -93,7 +93,7 @@ impl<C: MailboxCore> ChannelEntry<C> {
         requires room { kept self.old ≤ ready.old.registered }
         ensures { Settles self.old (without_sender self.old) self.new ready.old ready.new }
     {
-        let before = self.core.waiting();
+        let before = self.core.kept_wakers();
         self.core.end_sender();
         self.settle(before, ready);
     }
@@ -105,7 +105,7 @@ impl<C: MailboxCore> ChannelEntry<C> {
         requires room { kept self.old ≤ ready.old.registered }
         ensures { Settles self.old (receiver_ended C.falls self.old) self.new ready.old ready.new }
     {
-        let before = self.core.waiting();
+        let before = self.core.kept_wakers();
         self.core.end_receiver();
         self.settle(before, ready);
     }
@@ -135,7 +135,7 @@ impl<C: SharedCore> ChannelEntry<C> {
         ensures sent { IfOk result (λ sent. (sent ≡ sent_answer self.old) × Settles self.old (message_sent self.old message) self.new ready.old ready.new) }
         ensures err { OnErr result ((self.new ≡ self.old) × (ready.new ≡ ready.old)) }
     {
-        let before = self.core.waiting();
+        let before = self.core.kept_wakers();
         let Ok(sent) = self.core.send(message) else {
             return Err(NoMemory);
         };
@@ -154,7 +154,7 @@ impl<C: SingleCore> ChannelEntry<C> {
         ensures settles { Settles self.old (last_sent self.old message) self.new ready.old ready.new }
         ensures one { self.old.senders ≡ 1 }
     {
-        let before = self.core.waiting();
+        let before = self.core.kept_wakers();
         let sent = self.core.send_last(message);
         self.settle(before, ready);
         sent

@@ -4,7 +4,7 @@
 #![tactic(auto)]
 
 mod actions;
-mod bounded_calls;
+mod bounded_entry;
 mod bounded_part;
 mod box_core;
 mod box_part;

@@ -21,7 +21,7 @@ pub trait MailboxCore: Drop {
         ensures { mailbox_of result ≡ new_core };
 
     /// How many wakers it keeps: one or none.
-    fn waiting(&self) -> usize
+    fn kept_wakers(&self) -> usize
         ensures { result ≡ length (option_to_list (mailbox_of self.now).waker) };
 
     /// Whether its receiver has ended and no sender lives.

@@ -15,7 +15,7 @@ impl MailboxCore for OneshotCore<u64, u64> {
         OneshotCore::new()
     }
 
-    fn waiting(&self) -> usize {
+    fn kept_wakers(&self) -> usize {
         usize::from(self.is_waiting())
     }
 

@@ -14,7 +14,7 @@ impl MailboxCore for UnboundedCore<u64, u64> {
         UnboundedCore::new(alloc)
     }
 
-    fn waiting(&self) -> usize {
+    fn kept_wakers(&self) -> usize {
         usize::from(self.is_waiting())
     }
 

@@ -3,3 +3,4 @@ pub mod Pours
 pub mod Sets
 pub mod Waiters
 pub mod Poured
+pub mod Granted

@@ -3,6 +3,7 @@ use Rattle.std.proofs.Common.{◌≡◌, ℕ, ◌+◌, ◌≤◌, ◌==◌, ◌|
 use Rattle.std.specs.FinMap.{get, insert, remove}
 use Rattle.mea_family.specs.declared.answer.Answer.{Answer}
 use Rattle.mea_family.specs.declared.answer.Answer.TheVariants as answers
+use Rattle.mea_base.specs.declared.turn.Turn.{Turn}
 use Rattle.mea_base.specs.declared.turn.Turn.TheVariants.{Ready, Pending}
 use Rattle.mea_family.specs.Family.{Outcome, quietly}
 use Rattle.mea_base.specs.Ready.{Waking}
@@ -22,12 +23,12 @@ use Rattle.mea_lock_model.specs.Locks.{Lock, LockFuture, Locks, Until, goes_on, 
 use Rattle.mea_lock_model.specs.Actions.{Action, act_in, Poll, PollUntil, EndWait}
 use Rattle.mea_cores_by_name.specs.Linked.{names_in}
 use Rattle.mea_lock.specs.declared.guard_entry.GuardEntry.{GuardEntry}
-use Rattle.mea_lock.specs.Cores.{NamedLock, CancelsLock, UnlocksLock, IsHeldAs}
+use Rattle.mea_lock.specs.Cores.{NamedLock, CancelsLock, UnlocksLock, IsHeldAs, keeps_out}
 use Rattle.mea_lock.specs.Entries.{KeptLock, KeptFuture, finished, settled, is_over, Settles, EndsLock, Polled, HasLock}
 use Rattle.mea_lock.specs.Waits.{IsNewWait, is_polled}
 use Rattle.mea_lock.specs.Parts.{lock_seen, future_seen, guard_seen, locks_seen, AreKept, AreKeptLocks, of_future, of_guard}
 use Rattle.mea_lock.proofs.OneLock as one
-use Rattle.mea_lock.proofs.PartEvents.{Site, tidied_seen, waiting_tidied, tidied_kept, waiters, part_of, writing_ready, writing_pending, free_ready, polled_by, yields_as, no_guard, its_kept, found_lock, waiting_now, turns}
+use Rattle.mea_lock.proofs.PartEvents.{Site, tidied_seen, waiting_tidied, tidied_kept, waiters, part_of, writing_ready, writing_pending, free_ready, kept_out, polled_by, yields_as, no_guard, its_kept, found_lock, waiting_now, turns}
 
 module _ {old : Part Locks} {i : ℕ} (s : Site old i) where
   -- ---- by a future
@@ -304,6 +305,11 @@ module _ {old : Part Locks} {i : ℕ} (s : Site old i) where
             → (AreKeptLocks (insert s.ls x.lock e') (insert s.fs f x') gs' (i + 1)) × PartYields registered old i (act_in old.hall i (PollUntil f w until)) answers.Pending (part_of (insert s.ls x.lock e') (insert s.fs f x') gs' (i + 1)) before after
         pended_until until = pended_by (PollUntil f w until) (λ on. until_as w until _ (if_true _ _ _ on))
             (λ apart new few. until_as w until _ (if_false _ _ _ apart ∙ if_false _ _ _ (polled_by x.holds (is_polled x.wait) waits_now new) ∙ if_true _ _ _ few))
+
+      -- where what is held keeps it out, it waits
+      pub kept_waiting : (turn : Turn NamedWaker) → Polled e f x w turn e' x' before after → keeps_out (is_write x.wait) e.lock ≡ true
+          → (AreKeptLocks (insert s.ls x.lock e') (insert s.fs f x') s.gs (i + 1)) × PartYields registered old i (act_in old.hall i (Poll f w)) answers.Pending (part_of (insert s.ls x.lock e') (insert s.fs f x') s.gs (i + 1)) before after
+      kept_waiting turn polled out = pended (subst (λ (t : Turn NamedWaker). Polled e f x w t e' x' before after) (kept_out e.lock (is_write x.wait) turn out polled.polls.lets_in) polled) s.gs refl
 
     -- ---- the poll of that of a wait
     -- the outcome of a poll that leaves these

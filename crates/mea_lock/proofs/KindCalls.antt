@@ -1,13 +1,13 @@
 -- the calls of each kind of core, as the hall sees them
-use Rattle.std.proofs.Common.{◌≡◌, ℕ, ◌+◌, ◌-◌, ◌≤◌, Bool, true, false, nat_lt, refl, ap, ◌∙◌, arith}
+use Rattle.std.proofs.Common.{◌≡◌, ℕ, ◌+◌, ◌-◌, ◌≤◌, ◌↔◌, ◌&&◌, ◌||◌, Bool, true, false, IsTrue, nat_lt, refl, ap, sym, ◌∙◌, arith, if◌then◌else◌}
 use Rattle.std.proofs.lemmas.Bool.Decides.{nat_tests}
 use Rattle.mea_by_name.specs.declared.named_waker.NamedWaker.{NamedWaker}
 use Rattle.mea_sem_core.specs.Core.{held_of}
 use Rattle.mea_sem_core.specs.Calls.{given_back}
 use Rattle.mea_lock_core.specs.Lock as mutex
 use Rattle.mea_lock_core.specs.Lock.{Lock}
-use Rattle.mea_lock_core.specs.RwLock.{IsSound, share_of}
-use Rattle.mea_lock.specs.Cores.{NamedLock, as_rw, TakesLock, UnlocksLock}
+use Rattle.mea_lock_core.specs.RwLock.{IsSound, share_of, readers_of}
+use Rattle.mea_lock.specs.Cores.{NamedLock, as_rw, TakesLock, UnlocksLock, keeps_out}
 
 abbrev Mutex : Type 0
 Mutex = Lock ℕ NamedWaker
@@ -30,6 +30,35 @@ sound_rw l sound = record {
   is_open = sound.is_open;
   alone = λ writing. all_held (held_of l.permits) (omega (arith, sound.permits.total, sound.one)) writing;
 }
+
+-- ---- whom they keep out
+is_some : (n : ℕ) → nat_lt 0 n ≡ true → 1 ≤ n
+is_some n is = grind (arith, nat_tests)
+
+some_is : (n : ℕ) → 1 ≤ n → nat_lt 0 n ≡ true
+some_is n some = grind (arith, nat_tests)
+
+some_test : (b : Bool) (n : ℕ) → IsTrue b ↔ (1 ≤ n) → b ≡ nat_lt 0 n
+some_test true n is = sym (some_is n (is.0 refl))
+some_test false n is = at (nat_lt 0 n) refl
+  where
+    at : (t : Bool) → nat_lt 0 n ≡ t → false ≡ nat_lt 0 n
+    at true some = absurd (let no = is.1 (is_some n some) in cc)
+    at false none = sym none
+
+pub mutex_keeps_out : (l : Mutex) (write b : Bool) → IsTrue b ↔ (1 ≤ held_of l.permits) → b ≡ keeps_out write (as_rw l)
+mutex_keeps_out l true b is = some_test b (held_of l.permits) is
+mutex_keeps_out l false b is = some_test b (held_of l.permits) is
+
+-- by whether a write is held, and how many reads
+pub rw_keeps_out : (l : NamedLock) (write writing : Bool) (readers : ℕ) → IsSound l → writing ≡ l.writing → readers ≡ readers_of l → (writing || (write && nat_lt 0 readers)) ≡ keeps_out write l
+rw_keeps_out l write writing readers sound writes reads = (λ j. writes j || (write && nat_lt 0 (reads j))) ∙ at l.writing refl write
+  where
+    at : (b : Bool) → l.writing ≡ b → (w : Bool) → (b || (w && nat_lt 0 (if b then 0 else held_of l.permits))) ≡ (if w then nat_lt 0 (held_of l.permits) else b)
+    at true writing true = sym (some_is (held_of l.permits) (let all = sound.alone writing in let some = sound.some in omega (arith, all, some)))
+    at true writing false = refl
+    at false writing true = refl
+    at false writing false = refl
 
 -- a mutex was taken by a try
 pub share_one : (l : Mutex) (write : Bool) → share_of (as_rw l) write ≡ 1

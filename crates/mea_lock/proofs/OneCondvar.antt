@@ -1,10 +1,10 @@
 -- one condition variable with its waits: what each event leaves of it
-use Rattle.std.proofs.Common.{◌≡◌, ℕ, ◌+◌, ◌-◌, ◌≤◌, ◌==◌, ◌++◌, inl, inr, Bool, true, false, cond, length, List, [], ◌∷◌, Option, Some, None, is_some, refl, ap, sym, subst, ◌∙◌, arith, if◌then◌else◌}
+use Rattle.std.proofs.Common.{◌≡◌, ◌⊎◌, ℕ, ◌+◌, ◌-◌, ◌≤◌, ◌==◌, ◌++◌, inl, inr, Bool, true, false, cond, length, List, [], ◌∷◌, Option, Some, None, is_some, refl, ap, sym, subst, ◌∙◌, arith, if◌then◌else◌}
 use Rattle.std.specs.Option.{IsSome}
 use Rattle.std.specs.Ordering.{nat_cmp}
 use Rattle.std.specs.FinMap.{FinMap, get, insert, remove, empty, len-empty}
 use Rattle.std.proofs.lemmas.Bool.{cases_eq, eqb-true, eqb-false, eq-eqb, ne_eqb}
-use Rattle.mea_base.proofs.Maps.{by_put, by_gone, removed_there, nothing_at, inside, get-there, get-other, get-removed_other}
+use Rattle.mea_base.proofs.Maps.{by_put, by_gone, removed_there, nothing_at, inside, get-there, get-other, get-gone, get-removed_other}
 use Rattle.mea_by_name.specs.declared.named_waker.NamedWaker.{NamedWaker}
 use Rattle.mea_by_name.specs.ByName.{Names}
 use Rattle.mea_by_name.specs.NamedQueue as named
@@ -13,7 +13,7 @@ use Rattle.mea_by_name.proofs.Own.{len-new, len-gone, len-over, len-some}
 use Rattle.mea_lock_core.specs.Condvar.{Condvar, Knows, AreApart, waker_under, with_waker, without_wait, notifying}
 use Rattle.mea_lock.specs.declared.wait_entry.WaitEntry.{WaitEntry}
 use Rattle.mea_lock.specs.CondEntries.{KeptCondvar, listed_in, IsWaitingUnder, forgotten, forgotten_under}
-use Rattle.mea_lock.specs.CondParts.{AreOf, NumbersApart, AreListed}
+use Rattle.mea_lock.specs.CondParts.{AreOf, NumbersApart, IsTold, AreListed}
 
 abbrev Listed : Type 0
 Listed = ℕ × NamedWaker
@@ -160,6 +160,14 @@ forgotten-other : (m : FinMap nat_cmp Bool) (number : Option ℕ) (n : ℕ) → 
 forgotten-other m None n apart = refl
 forgotten-other m (Some k) n apart = get-removed_other m k n (λ same. apart (ap (λ j. Some j) same))
 
+-- what is left after one was forgotten was there, under another number
+forgotten-there : (m : FinMap nat_cmp Bool) (number : Option ℕ) (n : ℕ) (b : Bool) → get (forgotten m number) n ≡ Some b → (get m n ≡ Some b) × (number ≡ Some n → ⊥)
+forgotten-there m None n b is = (is, λ no. absurd (cc))
+forgotten-there m (Some k) n b is = (
+  removed_there m k n b is,
+  λ same. absurd (let gone : get (remove m k) n ≡ None = ap (get (remove m k)) (sym (inside same)) ∙ get-gone m k in cc),
+)
+
 insert-some : (m : FinMap nat_cmp Bool) (k n : ℕ) (b : Bool) → IsSome (get m n) → IsSome (get (insert m k b) n)
 insert-some m k n b some = by_put m k b (λ j o. IsSome (get m j) → IsSome o) (λ is. refl) (λ j apart is. is) n some
 
@@ -173,6 +181,31 @@ notifying-waited m (e ∷ q) n some = elim (e.0 == n) as (λ b. (e.0 == n) ≡ b
   | true ↦ λ is had. notifying-some (insert m e.0 false) q n (ap is_some (ap (get (insert m e.0 false)) (sym (eqb-true e.0 n is)) ∙ get-there m e.0 false))
   | false ↦ λ is had. notifying-waited (insert m e.0 false) q n had
 ] refl some
+
+-- a number that was notified after all who wait were was so before, or waited
+notifying-from : (m : FinMap nat_cmp Bool) (q : List Listed) (n : ℕ) (b : Bool) → get (notifying m q) n ≡ Some b → (get m n ≡ Some b) ⊎ (IsSome (waker_under q n) × (b ≡ false))
+notifying-from m [] n b is = inl is
+notifying-from m (e ∷ q) n b is = at (e.0 == n) refl (notifying-from (insert m e.0 false) q n b is)
+  where
+    at : (t : Bool) → (e.0 == n) ≡ t → (get (insert m e.0 false) n ≡ Some b) ⊎ (IsSome (waker_under q n) × (b ≡ false)) → (get m n ≡ Some b) ⊎ (IsSome (if t then Some e.1 else waker_under q n) × (b ≡ false))
+    at true same (inl told) = inr (refl, sym (inside (sym (ap (get (insert m e.0 false)) (sym (eqb-true e.0 n same)) ∙ get-there m e.0 false) ∙ told)))
+    at true same (inr waited) = inr (refl, waited.1)
+    at false other (inl told) = inl (sym (get-other m e.0 n false (eqb-false e.0 n other)) ∙ told)
+    at false other (inr waited) = inr waited
+
+-- the wait that waits under a number
+waits_of : (ws : Names WaitEntry) (q : List Listed) (n : ℕ) → AreOf ws q → IsSome (waker_under q n) → (f : ℕ) × (x : WaitEntry) × (get ws f ≡ Some x) × (x.number ≡ Some n)
+waits_of ws [] n are some = absurd (cc)
+waits_of ws (e ∷ q) n are some = at (waits_of ws q n are.1) (e.0 == n) refl some
+  where
+    at : (IsSome (waker_under q n) → (f : ℕ) × (x : WaitEntry) × (get ws f ≡ Some x) × (x.number ≡ Some n)) → (b : Bool) → (e.0 == n) ≡ b → IsSome (if b then Some e.1 else waker_under q n)
+        → (f : ℕ) × (x : WaitEntry) × (get ws f ≡ Some x) × (x.number ≡ Some n)
+    at behind true is had = (e.1.future, are.0.0, are.0.1, are.0.2 ∙ ap (λ m. Some m) (eqb-true e.0 n is))
+    at behind false is had = behind had
+
+-- a wait that was notified stays, where another changed
+told_still : (ws ws' : Names WaitEntry) (f n : ℕ) (b : Bool) → ((g : ℕ) → (f ≡ g → ⊥) → get ws' g ≡ get ws g) → ((x : WaitEntry) → get ws f ≡ Some x → x.number ≡ Some n → ⊥) → IsTold ws n b → IsTold ws' n b
+told_still ws ws' f n b others mine told = (told.0, told.1, others told.0 (λ same. mine told.1 (ap (get ws) same ∙ told.2) told.3) ∙ told.2, told.3, told.4)
 
 -- ---- no two have one number
 with-none : (q : List Listed) (n m : ℕ) (k : NamedWaker) → waker_under q m ≡ None → waker_under (with_waker q n k) m ≡ None
@@ -223,6 +256,8 @@ new_listed = record {
   waits = tt;
   known = λ f x there. absurd (nothing_at WaitEntry f x there);
   apart = λ f g x y n there. absurd (nothing_at WaitEntry f x there);
+  notified = λ n b is. absurd (nothing_at Bool n b is);
+  unnotified = λ f x there. absurd (nothing_at WaitEntry f x there);
   distinct = tt;
   quiet = refl;
   counted = sym (len-empty nat_cmp WaitEntry);
@@ -239,6 +274,9 @@ module _ (e : KeptCondvar) (ws : Names WaitEntry) (good : AreListed e ws) where
     known = by_put ws f x (λ g o. (y : WaitEntry) → o ≡ Some y → (n : ℕ) → y.number ≡ Some n → Knows e.condvar n × (y.polled ≡ true))
         (λ y is n number. absurd (let same : x ≡ y = inside is in let no : y.number ≡ None = ap (λ (y : WaitEntry). y.number) (sym same) ∙ unlisted in cc)) (λ g differs y is n number. good.known g y is n number);
     apart = apart_put ws f x good.apart (λ n number. absurd (cc));
+    notified = λ n b is. let had = good.notified n b is in (had.0, told_still ws (insert ws f x) f n b (λ g differs. get-other ws f g x differs) (λ y there. absurd (cc)) had.1);
+    unnotified = by_put ws f x (λ g o. (y : WaitEntry) → o ≡ Some y → (n : ℕ) → y.number ≡ Some n → IsSome (waker_under queue n) → y.alone ≡ false)
+        (λ y is n number. absurd (let same : x ≡ y = inside is in let no : y.number ≡ None = ap (λ (y : WaitEntry). y.number) (sym same) ∙ unlisted in cc)) (λ g differs y is n number waited. good.unnotified g y is n number waited);
     distinct = good.distinct;
     quiet = good.quiet;
     counted = omega (arith, good.counted, len-new ws f x none);
@@ -253,6 +291,14 @@ module _ (e : KeptCondvar) (ws : Names WaitEntry) (good : AreListed e ws) where
       known.1,
     );
     apart = good.apart;
+    notified = λ n b is. (
+      refl,
+      elim (notifying-from e.condvar.notified queue n b is) [
+        | inl told ↦ (good.notified n b told).1
+        | inr waited ↦ (let one = waits_of ws queue n good.waits waited.0 in (one.0, one.1, one.2, one.3, good.unnotified one.0 one.1 one.2 n one.3 waited.0 ∙ sym waited.1))
+      ],
+    );
+    unnotified = λ f x there n number waited. absurd (cc);
     distinct = tt;
     quiet = refl;
     counted = good.counted;
@@ -273,6 +319,19 @@ module _ (e : KeptCondvar) (ws : Names WaitEntry) (good : AreListed e ws) where
           (λ y is m number. let same : record x { alone = true } ≡ y = inside is in rw (← same) (still f x there m (ap (λ (y : WaitEntry). y.number) same ∙ number)))
           (λ g differs y is m number. still g y is m number);
       apart = apart_put ws f (record x { alone = true }) good.apart (λ m number g z is same. good.apart f g x z m there is number same);
+      notified = by_put e.condvar.notified n true (λ m o. (b : Bool) → o ≡ Some b → (waker_under others m ≡ None) × IsTold (insert ws f (record x { alone = true })) m b)
+          (λ b is. ((subst (λ q. AreApart q) first good.distinct).0, (f, record x { alone = true }, get-there ws f (record x { alone = true }), mine, inside is)))
+          (λ m differs b is. let had = good.notified m b is in (
+            sym (ap (λ t. if t then Some (record { future = f; waker = w }) else waker_under others m) (ne_eqb n m differs)) ∙ ap (λ q. waker_under q m) (sym first) ∙ had.0,
+            told_still ws (insert ws f (record x { alone = true })) f m b (λ g other. get-other ws f g (record x { alone = true }) other)
+                (λ y also number. differs (inside (sym mine ∙ ap (λ (z : WaitEntry). z.number) (inside (sym there ∙ also)) ∙ number))) had.1,
+          ));
+      unnotified = by_put ws f (record x { alone = true }) (λ g o. (y : WaitEntry) → o ≡ Some y → (m : ℕ) → y.number ≡ Some m → IsSome (waker_under others m) → y.alone ≡ false)
+          (λ y is m number waited. absurd (
+          let its : n ≡ m = inside (sym mine ∙ ap (λ (z : WaitEntry). z.number) (inside is) ∙ number) in
+          let none : waker_under others m ≡ None = ap (waker_under others) (sym its) ∙ (subst (λ q. AreApart q) first good.distinct).0 in
+          cc))
+          (λ g differs y is m number waited. good.unnotified g y is m number (behind m waited));
       distinct = (subst (λ q. AreApart q) first good.distinct).1;
       quiet = refl;
       counted = omega (arith, good.counted, len-over ws f (record x { alone = true }) x there);
@@ -280,6 +339,16 @@ module _ (e : KeptCondvar) (ws : Names WaitEntry) (good : AreListed e ws) where
       where
         now : Condvar NamedWaker
         now = record { waiting = others; notified = insert e.condvar.notified n true; wakes = [] }
+
+        mine : x.number ≡ Some n
+        mine = ap (λ (y : WaitEntry). y.number) (inside (sym there ∙ first_there.1)) ∙ first_there.2
+
+        behind : (m : ℕ) → IsSome (waker_under others m) → IsSome (waker_under queue m)
+        behind m waited = subst (λ q. IsSome (waker_under q m)) (sym first) (at (n == m) waited)
+          where
+            at : (b : Bool) → IsSome (waker_under others m) → IsSome (if b then Some (record { future = f; waker = w }) else waker_under others m)
+            at true had = refl
+            at false had = had
 
         told : (m : ℕ) → Knows e.condvar m → Knows now m
         told m (inl waited) = at (n == m) refl (subst (λ q. IsSome (waker_under q m)) first waited)
@@ -326,6 +395,8 @@ module _ (e : KeptCondvar) (ws : Names WaitEntry) (good : AreListed e ws) where
         known.1,
       );
       apart = good.apart;
+      notified = λ m b is. let had = good.notified m b is in (with-none queue n m (record { future = f; waker = w }) had.0, had.1);
+      unnotified = λ g y is m same waited. good.unnotified g y is m same (sym (with-there queue n m (record { future = f; waker = w })) ∙ waited);
       distinct = distinct_with queue n (record { future = f; waker = w }) good.distinct;
       quiet = good.quiet;
       counted = good.counted;
@@ -336,8 +407,8 @@ module _ (e : KeptCondvar) (ws : Names WaitEntry) (good : AreListed e ws) where
     other_number g y differs is m number mine = differs (good.apart f g x y m there is mine number)
 
     -- it leaves those who wait, and ends
-    pub leaves : (n : ℕ) → x.number ≡ Some n → AreListed (record e { condvar = record e.condvar { waiting = without_wait queue n }; waits = e.waits - 1 }) (remove ws f)
-    leaves n number = record {
+    pub leaves : (n : ℕ) → x.number ≡ Some n → IsSome (waker_under queue n) → AreListed (record e { condvar = record e.condvar { waiting = without_wait queue n }; waits = e.waits - 1 }) (remove ws f)
+    leaves n number waited = record {
       waits = of_changed ws (remove ws f) f (without_wait queue n) (of_without ws n queue good.waits)
           (ap (λ q. waits q f) (listed_without ws good.apart f n x there number queue good.waits) ∙ gone (listed_in queue)) (λ g differs. get-removed_other ws f g differs);
       known = by_gone ws f (λ g o. (y : WaitEntry) → o ≡ Some y → (m : ℕ) → y.number ≡ Some m → Knows (record e.condvar { waiting = without_wait queue n }) m × (y.polled ≡ true)) (λ y is. absurd (cc))
@@ -350,6 +421,15 @@ module _ (e : KeptCondvar) (ws : Names WaitEntry) (good : AreListed e ws) where
           ));
       distinct = distinct_without queue n good.distinct;
       apart = apart_gone ws f good.apart;
+      notified = λ m b is. let had = good.notified m b is in (
+        without-none queue n m had.0,
+        told_still ws (remove ws f) f m b (λ g differs. get-removed_other ws f g differs) (λ y also same. absurd (
+            let its : n ≡ m = inside (sym number ∙ ap (λ (z : WaitEntry). z.number) (inside (sym there ∙ also)) ∙ same) in
+            let none : waker_under queue n ≡ None = ap (waker_under queue) its ∙ had.0 in
+            cc)) had.1,
+      );
+      unnotified = by_gone ws f (λ g o. (y : WaitEntry) → o ≡ Some y → (m : ℕ) → y.number ≡ Some m → IsSome (waker_under (without_wait queue n) m) → y.alone ≡ false) (λ y is. absurd (cc))
+          (λ g differs y is m same still. good.unnotified g y is m same (sym (ap is_some (without-other queue n m (λ alike. other_number g y differs is m same (number ∙ ap (λ j. Some j) alike)))) ∙ still));
       quiet = good.quiet;
       counted = omega (arith, good.counted, len-some ws f x there, len-gone ws f x there);
     }
@@ -369,6 +449,16 @@ module _ (e : KeptCondvar) (ws : Names WaitEntry) (good : AreListed e ws) where
         known.1,
       )
 
+      -- of another it is known still that it was notified
+      others_told : (ws' : Names WaitEntry) → ((g : ℕ) → (f ≡ g → ⊥) → get ws' g ≡ get ws g) → (m : ℕ) (b : Bool) → get (forgotten e.condvar.notified x.number) m ≡ Some b → (get e.condvar.notified m ≡ Some b) × (waker_under queue m ≡ None) × IsTold ws' m b
+      others_told ws' others m b is =
+          let left = forgotten-there e.condvar.notified x.number m b is in
+          let had = good.notified m b left.0 in (
+            left.0,
+            had.0,
+            told_still ws ws' f m b others (λ y also number. left.1 (ap (λ (z : WaitEntry). z.number) (inside (sym there ∙ also)) ∙ number)) had.1,
+          )
+
       -- it is listed no more
       pub asks : (y : WaitEntry) → y.number ≡ None → AreListed (forgotten_under e x.number) (insert ws f y)
       asks y unlisted = record {
@@ -377,6 +467,9 @@ module _ (e : KeptCondvar) (ws : Names WaitEntry) (good : AreListed e ws) where
             (λ z is m number. absurd (let same : y ≡ z = inside is in let no : z.number ≡ None = ap (λ (y : WaitEntry). y.number) (sym same) ∙ unlisted in cc)) others_known;
         distinct = good.distinct;
         apart = apart_put ws f y good.apart (λ n number. absurd (cc));
+        notified = λ m b is. let had = others_told (insert ws f y) (λ g differs. get-other ws f g y differs) m b is in (had.1, had.2);
+        unnotified = by_put ws f y (λ g o. (z : WaitEntry) → o ≡ Some z → (m : ℕ) → z.number ≡ Some m → IsSome (waker_under queue m) → z.alone ≡ false)
+            (λ z is m number. absurd (let same : y ≡ z = inside is in let no : z.number ≡ None = ap (λ (y : WaitEntry). y.number) (sym same) ∙ unlisted in cc)) (λ g differs z is m number waited. good.unnotified g z is m number waited);
         quiet = good.quiet;
         counted = omega (arith, good.counted, len-over ws f y x there);
       }
@@ -388,14 +481,16 @@ module _ (e : KeptCondvar) (ws : Names WaitEntry) (good : AreListed e ws) where
         known = by_gone ws f (λ g o. (z : WaitEntry) → o ≡ Some z → (m : ℕ) → z.number ≡ Some m → Knows (record e.condvar { notified = forgotten e.condvar.notified x.number }) m × (z.polled ≡ true)) (λ z is. absurd (cc)) others_known;
         distinct = good.distinct;
         apart = apart_gone ws f good.apart;
+        notified = λ m b is. let had = others_told (remove ws f) (λ g differs. get-removed_other ws f g differs) m b is in (had.1, had.2);
+        unnotified = by_gone ws f (λ g o. (z : WaitEntry) → o ≡ Some z → (m : ℕ) → z.number ≡ Some m → IsSome (waker_under queue m) → z.alone ≡ false) (λ z is. absurd (cc)) (λ g differs z is m number waited. good.unnotified g z is m number waited);
         quiet = good.quiet;
         counted = omega (arith, good.counted, len-some ws f x there, len-gone ws f x there);
       }
 
       -- it is listed, last of all
-      pub lists : (place w : ℕ) → waker_under queue place ≡ None → get e.condvar.notified place ≡ None → (y : WaitEntry) → y.number ≡ Some place → y.polled ≡ true
+      pub lists : (place w : ℕ) → waker_under queue place ≡ None → get e.condvar.notified place ≡ None → (y : WaitEntry) → y.number ≡ Some place → y.polled ≡ true → y.alone ≡ false
           → AreListed (forgotten_under (record e { condvar = record e.condvar { waiting = queue ++ (place, record { future = f; waker = w }) ∷ [] } }) x.number) (insert ws f y)
-      lists place w free quiet y listed polled = record {
+      lists place w free quiet y listed polled with_all = record {
         waits = of_end (insert ws f y) queue (place, record { future = f; waker = w }) (of_changed ws (insert ws f y) f queue good.waits idle (λ g differs. get-other ws f g y differs)) (y, get-there ws f y, listed);
         known = by_put ws f y (λ g o. (z : WaitEntry) → o ≡ Some z → (m : ℕ) → z.number ≡ Some m
             → Knows (record e.condvar { waiting = queue ++ (place, record { future = f; waker = w }) ∷ []; notified = forgotten e.condvar.notified x.number }) m × (z.polled ≡ true))
@@ -408,6 +503,14 @@ module _ (e : KeptCondvar) (ws : Names WaitEntry) (good : AreListed e ws) where
               elim known.0 [ inl waited ↦ inl (end-some queue m (place, record { future = f; waker = w }) waited) | inr told ↦ inr told ],
               known.1,
             ));
+        notified = λ m b is.
+            let had = others_told (insert ws f y) (λ g differs. get-other ws f g y differs) m b is in (
+              end-other queue place m (record { future = f; waker = w }) (λ same. absurd (let none : get e.condvar.notified m ≡ None = ap (get e.condvar.notified) (sym same) ∙ quiet in let some = had.0 in cc)) ∙ had.1,
+              had.2,
+            );
+        unnotified = by_put ws f y (λ g o. (z : WaitEntry) → o ≡ Some z → (m : ℕ) → z.number ≡ Some m → IsSome (waker_under (queue ++ (place, record { future = f; waker = w }) ∷ []) m) → z.alone ≡ false)
+            (λ z is m number waited. ap (λ (z : WaitEntry). z.alone) (sym (inside is)) ∙ with_all)
+            (λ g differs z is m number waited. good.unnotified g z is m number (sym (ap is_some (end-other queue place m (record { future = f; waker = w }) (λ same. fresh m same (good.known g z is m number).0))) ∙ waited));
         distinct = distinct_end queue place (record { future = f; waker = w }) free good.distinct;
         apart = apart_put ws f y good.apart (λ n number g z is same. absurd (fresh n (inside (sym listed ∙ number)) (good.known g z is n same).0));
         quiet = good.quiet;

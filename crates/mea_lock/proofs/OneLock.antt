@@ -54,7 +54,7 @@ may_cancel_by l NewWrite may = tt
 may_cancel_by l (Write a) may = may.0
 
 -- whether a wait was polled does not depend on its lock
-polled-any : (x : RwWait) (m n : ℕ) → has_number (acquire_of m x) ≡ has_number (acquire_of n x)
+pub polled-any : (x : RwWait) (m n : ℕ) → has_number (acquire_of m x) ≡ has_number (acquire_of n x)
 polled-any (Read a) m n = refl
 polled-any NewWrite m n = refl
 polled-any (Write a) m n = refl

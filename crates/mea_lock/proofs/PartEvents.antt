@@ -6,7 +6,8 @@ use Rattle.std.proofs.lemmas.Bool.{cases_lt}
 use Rattle.std.proofs.lemmas.Bool.Decides.{nat_tests}
 use Rattle.mea_family.specs.declared.answer.Answer.{Answer}
 use Rattle.mea_family.specs.declared.answer.Answer.TheVariants as answers
-use Rattle.mea_base.specs.declared.turn.Turn.TheVariants.{Ready}
+use Rattle.mea_base.specs.declared.turn.Turn.{Turn}
+use Rattle.mea_base.specs.declared.turn.Turn.TheVariants.{Ready, Pending}
 use Rattle.mea_family.specs.Causes.{unknown_unless}
 use Rattle.mea_family.specs.Family.{Outcome}
 use Rattle.mea_base.specs.Ready.{Waking}
@@ -30,12 +31,13 @@ use Rattle.mea_lock_model.specs.Actions.{act_in, Make, Begin, Poll, Try, Get, Se
 use Rattle.mea_lock_model.specs.Meaning.{cause_at}
 use Rattle.mea_cores_by_name.specs.Linked.{names_in}
 use Rattle.mea_lock.specs.declared.guard_entry.GuardEntry.{GuardEntry}
-use Rattle.mea_lock.specs.Cores.{NamedLock, TakesLock, UnlocksLock, LowersLock, IsHeldAs, IsFreeFor}
+use Rattle.mea_lock.specs.Cores.{NamedLock, TakesLock, UnlocksLock, LowersLock, IsHeldAs, IsFreeFor, keeps_out}
 use Rattle.mea_lock.specs.Entries.{KeptLock, KeptFuture, begun, finished, settled, is_over, Settles}
 use Rattle.mea_lock.specs.Waits.{IsNewWait, is_polled}
 use Rattle.mea_lock.specs.Parts.{lock_seen, future_seen, guard_seen, locks_seen, held_by as held_of_guards, held_in, AreKept, AreKeptLocks, IsNewLock, of_future, of_guard}
-use Rattle.mea_lock.specs.Lends.{StandsFor}
+use Rattle.mea_lock.specs.Lends.{StandsFor, has_permits, HasNoWait}
 use Rattle.mea_lock.proofs.OneLock as one
+use Rattle.mea_lock.proofs.LockGrants.{held_by_all, futures_granted}
 use Rattle.mea_cores_by_name.proofs.Waiters.{length-names}
 use Rattle.mea_base.proofs.Tests.{over_is}
 
@@ -74,9 +76,9 @@ module _ (ls : Names KeptLock) (fs : Names KeptFuture) (gs : Names GuardEntry) (
       let guards = ap (count (λ (x : LockGuard). x.plain)) guards_seen ∙ total-seen guard_seen (λ (x : LockGuard). cond x.plain 1 0) (own of_guard o gs) in
       omega (arith, futures, guards)
 
--- a future that does not hold the lock holds no permits
-holds_nothing : (l : NamedLock) (x : KeptFuture) → (x.holds ≡ true → ⊥) → cond x.holds l.most 0 ≡ 0
-holds_nothing l x not = elim x.holds as (λ b. (b ≡ true → ⊥) → cond b l.most 0 ≡ 0) [ true ↦ λ no. absurd (no refl) | false ↦ λ no. refl ] not
+-- a future that does not hold the lock counts for nothing
+holds_nothing : (n : ℕ) (x : KeptFuture) → (x.holds ≡ true → ⊥) → cond x.holds n 0 ≡ 0
+holds_nothing n x not = elim x.holds as (λ b. (b ≡ true → ⊥) → cond b n 0 ≡ 0) [ true ↦ λ no. absurd (no refl) | false ↦ λ no. refl ] not
 
 -- ---- what is looked up in locks that are seen so
 module _ {old : Part Locks} (ls : Names KeptLock) (fs : Names KeptFuture) (gs : Names GuardEntry) (next : ℕ) (view : ◌≡◌ {A = Part Locks} (record { hall = locks_seen ls fs gs; next = next }) old) where
@@ -97,24 +99,37 @@ module _ {old : Part Locks} (ls : Names KeptLock) (fs : Names KeptFuture) (gs : 
     plain_of_it = ap (λ (p : Part Locks). plain_of p.hall o) (sym view) ∙ plain_seen ls fs gs o ∙ sym (kept.each o e there).plain
 
     pub stands_for_it : e.named ≡ true → StandsFor old.hall o e.lock
-    stands_for_it named =
-        let it : AreKept e (own of_future o fs) (own of_guard o gs) = kept.each o e there in
-        subst (λ (p : Part Locks). StandsFor p.hall o e.lock) view (record {
-          seen = seen-at lock_seen ls o e there
-              ∙ (λ i. Some (record { value = e.lock.value; most = e.lock.most; free = e.lock.permits.free; queue = names_in e.lock.permits.queue; named = named i }));
-          writing = λ g x there of.
-              let kept_as = seen-back guard_seen gs g x there in
-              sym (it.writing g kept_as.0 (own-at of_guard o gs g kept_as.0 kept_as.1 (ap (λ (x : LockGuard). x.lock) kept_as.2 ∙ of)))
-              ∙ ap (λ (x : LockGuard). x.writes) kept_as.2;
-          held = λ alone.
-              let none : held_in e.lock (own of_future o fs) ≡ 0 = total-zero (λ k (x : KeptFuture). cond x.holds e.lock.most 0) (own of_future o fs)
-              (λ f x there. holds_nothing e.lock x (λ is.
-              let of = own-had of_future o fs f x there in
-              absurd (let yes = (it.holders f x there is).of_condvar in let no = alone f (future_seen x) (seen-at future_seen fs f x of.0) of.1 in cc))) in
-              let guards : held_by (lock_seen e) (own (λ (x : LockGuard). x.lock) o (seen guard_seen gs)) ≡ held_of_guards e.lock (own of_guard o gs) =
-              ap (held_by (lock_seen e)) (guards_seen ls fs gs o) ∙ total-seen guard_seen (λ (x : LockGuard). size (lock_seen e) x.writes) (own of_guard o gs) in
-              omega (arith, it.held, none, guards);
-        })
+    stands_for_it named = subst (λ (p : Part Locks). StandsFor p.hall o e.lock) view (record {
+      seen = seen-at lock_seen ls o e there
+          ∙ (λ i. Some (record { value = e.lock.value; most = e.lock.most; free = e.lock.permits.free; queue = names_in e.lock.permits.queue; named = named i }));
+      writing = λ g x there of.
+          let kept_as = seen-back guard_seen gs g x there in
+          sym (it.writing g kept_as.0 (own-at of_guard o gs g kept_as.0 kept_as.1 (ap (λ (x : LockGuard). x.lock) kept_as.2 ∙ of)))
+          ∙ ap (λ (x : LockGuard). x.writes) kept_as.2;
+      held = λ alone.
+          let none : held_in e.lock (own of_future o fs) ≡ 0 = total-zero (λ k (x : KeptFuture). cond x.holds e.lock.most 0) (own of_future o fs) (λ f x there. holds_nothing e.lock.most x (nobody alone f x there)) in
+          omega (arith, it.held, none, guards);
+      granted = record {
+        holders = count (λ (x : KeptFuture). x.holds) (own of_future o fs);
+        none = λ alone. total-zero (λ k (x : KeptFuture). cond x.holds 1 0) (own of_future o fs) (λ f x there. holds_nothing 1 x (nobody alone f x there));
+        held = omega (arith, it.held, guards, held_by_all e.lock (own of_future o fs));
+        granted = ap (λ xs. total (λ f (x : LockFuture). cond (has_permits (lock_seen e) f x) 1 0) xs) (futures_seen ls fs gs o) ∙ futures_granted e (own of_future o fs) (own of_guard o gs) it;
+      };
+    })
+      where
+        it : AreKept e (own of_future o fs) (own of_guard o gs)
+        it = kept.each o e there
+
+        guards : held_by (lock_seen e) (own (λ (x : LockGuard). x.lock) o (seen guard_seen gs)) ≡ held_of_guards e.lock (own of_guard o gs)
+        guards = ap (held_by (lock_seen e)) (guards_seen ls fs gs o) ∙ total-seen guard_seen (λ (x : LockGuard). size (lock_seen e) x.writes) (own of_guard o gs)
+
+        -- without a wait on a condition variable no future holds it
+        nobody : HasNoWait (locks_seen ls fs gs) o → (f : ℕ) (x : KeptFuture) → get (own of_future o fs) f ≡ Some x → x.holds ≡ true → ⊥
+        nobody alone f x there is =
+            let of = own-had of_future o fs f x there in
+            let yes = (it.holders f x there is).of_condvar in
+            let no = alone f (future_seen x) (seen-at future_seen fs f x of.0) of.1 in
+            absurd (cc)
 
   -- the guards of each lock have no more than the lock has
   pub guards_fit : AreKeptLocks ls fs gs next → FitGuards old.hall
@@ -183,6 +198,12 @@ writing_pending false false = refl
 pub free_ready : (l : NamedLock) (k : NamedWaker) (w : Bool) → LetsIn w l (Ready k) → IsFreeFor w l
 free_ready l k true lets = lets
 free_ready l k false lets = lets
+
+-- and what is held against it makes it wait
+pub kept_out : (l : NamedLock) (w : Bool) (turn : Turn NamedWaker) → keeps_out w l ≡ true → LetsIn w l turn → turn ≡ Pending
+kept_out l w Pending out lets = refl
+kept_out l true (Ready k) out lets = absurd (let no : ◌≡◌ {A = Bool} true false = sym out ∙ ap (λ n. nat_lt 0 n) lets in cc)
+kept_out l false (Ready k) out lets = absurd (let no : ◌≡◌ {A = Bool} true false = sym out ∙ lets in cc)
 
 -- a future that does not hold the lock was polled as its wait was
 pub polled_by : (holds polled : Bool) → holds ≡ false → {b : Bool} → polled ≡ b → (holds || polled) ≡ b

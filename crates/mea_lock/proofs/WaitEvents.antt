@@ -1,6 +1,6 @@
 -- what each event does to condition variables and their waits, as they are kept and as they are seen
-use Rattle.std.proofs.Common.{◌≡◌, ℕ, ◌+◌, ◌-◌, ◌<◌, ◌≤◌, ◌^◌, ◌++◌, Bool, true, false, length, List, [], ◌∷◌, map, Option, Some, None, is_some, nat_lt, refl, ap, sym, subst, ◌∙◌, arith, append-nil, append_assoc, if◌then◌else◌, IfSome, IsTrue, ◌↔◌}
-use Rattle.std.specs.Option.{IsSome}
+use Rattle.std.proofs.Common.{◌≡◌, ℕ, ◌+◌, ◌-◌, ◌<◌, ◌≤◌, ◌^◌, ◌++◌, Bool, true, false, cond, length, List, [], ◌∷◌, map, Option, Some, None, is_some, nat_lt, refl, ap, sym, subst, ◌∙◌, arith, append-nil, append_assoc, if◌then◌else◌, IfSome, IsTrue, ◌↔◌}
+use Rattle.std.specs.Option.{IsSome, option_map}
 use Rattle.std.specs.Ordering.{nat_cmp}
 use Rattle.std.specs.FinMap.{get, insert, remove, len, empty, len-empty}
 use Rattle.std.proofs.lemmas.List.{length-map, length-append}
@@ -11,7 +11,7 @@ use Rattle.mea_family.specs.Family.{Outcome, quietly, is_pending}
 use Rattle.mea_base.specs.Ready.{Waking}
 use Rattle.mea_base.specs.Totals.{total, weight}
 use Rattle.mea_base.proofs.Maps.{by_put, total-has, nothing_at, inside, get-there, is_there, removed_there}
-use Rattle.mea_base.proofs.Totals.{total-insert, total-remove, total-same}
+use Rattle.mea_base.proofs.Totals.{total-insert, total-remove, total-same, total-alike}
 use Rattle.mea_base.proofs.NamedMaps.{is_some-map, get-seen}
 use Rattle.mea_by_name.specs.declared.named_waker.NamedWaker.{NamedWaker}
 use Rattle.mea_by_name.specs.ByName.{Names, seen, own, AreHome}
@@ -20,7 +20,7 @@ use Rattle.mea_by_name.specs.NamedQueue.{Waiting, waits}
 use Rattle.mea_by_name.proofs.NamedQueues.{length-with_waker}
 use Rattle.mea_by_name.proofs.Cases.{found_is, if_true, if_false}
 use Rattle.mea_by_name.proofs.Halls as halls
-use Rattle.mea_by_name.proofs.Own.{seen-at, seen-empty, seen-insert, seen-remove, seen-alike, own-seen, len-seen, total-seen, own-at, own-had, own-none, own-put, own-gone, own-empty, len-some, insert_same, Moves, Stays, Comes, Goes, moves_elsewhere, moves_home}
+use Rattle.mea_by_name.proofs.Own.{seen-at, seen-empty, seen-insert, seen-remove, seen-alike, own-seen, len-seen, total-seen, own-at, own-had, own-none, own-put, own-gone, own-empty, len-some, len-total, insert_same, Moves, Stays, Comes, Goes, moves_elsewhere, moves_home}
 use Rattle.mea_lock_core.specs.Condvar.{Condvar, Lists, Knows, waker_under, without_wait}
 use Rattle.mea_lock_model.specs.Locks as locks
 use Rattle.mea_lock_model.specs.Locks.{Locks, was_polled}
@@ -34,8 +34,9 @@ use Rattle.mea_lock.specs.declared.wait_entry.WaitEntry.{WaitEntry}
 use Rattle.mea_lock.specs.CondEntries.{KeptCondvar, listed_in, wakers_in, condvar_seen, wait_seen, IsWaitingUnder, rewoken_under, left_under, forgotten_under, NotifiesFirst, NotifiesEach}
 use Rattle.mea_lock.specs.CondParts.{condvars_seen, AreOf, AreListed, AreGood, AreKept, of_wait}
 use Rattle.mea_lock.specs.Halls.{PlaysWaits}
-use Rattle.mea_lock.specs.Lends.{ListsAs}
+use Rattle.mea_lock.specs.Lends.{ListsAs, counted_by, notified_by}
 use Rattle.mea_lock.proofs.OneCondvar as one
+use Rattle.mea_lock.proofs.Notified.{noted_by, told_are}
 
 -- how many wait at the condition variables that are kept
 abbrev waiters : KeptCondvar → ℕ
@@ -68,8 +69,24 @@ module _ {old : Part Condvars} (cs : Names KeptCondvar) (ws : Names WaitEntry) (
   pub waits_of_it : AreKept cs ws next → (c : ℕ) (e : KeptCondvar) → get cs c ≡ Some e → waits_of old.hall c ≡ e.waits
   waits_of_it kept c e there = ap (λ (p : Part Condvars). waits_of p.hall c) (sym view) ∙ waits_seen cs ws c ∙ sym (kept.each c e there).counted
 
-  pub lists_it : (c : ℕ) (e : KeptCondvar) → get cs c ≡ Some e → ListsAs old.hall c e.condvar
-  lists_it c e there = ap (λ (p : Part Condvars). get p.hall.condvars c) (sym view) ∙ seen-at condvar_seen cs c e there
+  pub lists_it : AreKept cs ws next → (c : ℕ) (e : KeptCondvar) → get cs c ≡ Some e → ListsAs old.hall c e.condvar
+  lists_it kept c e there = record {
+    waiting = ap (λ (p : Part Condvars). get p.hall.condvars c) (sym view) ∙ seen-at condvar_seen cs c e there;
+    notified = len-total e.condvar.notified ∙ sym (told (λ by_one. 1));
+    alone = sym (told (λ by_one. cond by_one 1 0));
+  }
+    where
+      at : (counts : Bool → ℕ) (f : ℕ) (o : Option WaitEntry) → weight (λ f x. counted_by counts (listed_in e.condvar.waiting) f x) f (option_map wait_seen o) ≡ weight (λ f x. noted_by counts e.condvar.waiting f x) f o
+      at counts f None = refl
+      at counts f (Some x) = refl
+
+      told : (counts : Bool → ℕ) → notified_by counts old.hall c (listed_in e.condvar.waiting) ≡ total (λ n by_one. counts by_one) e.condvar.notified
+      told counts =
+          ap (λ (p : Part Condvars). notified_by counts p.hall c (listed_in e.condvar.waiting)) (sym view)
+          ∙ ap (λ xs. total (λ f x. counted_by counts (listed_in e.condvar.waiting) f x) xs) (own-seen of_wait (λ (x : CondWait). x.condvar) wait_seen (λ x. refl) c ws)
+          ∙ total-alike (λ f x. counted_by counts (listed_in e.condvar.waiting) f x) (λ f x. noted_by counts e.condvar.waiting f x) (seen wait_seen (own of_wait c ws)) (own of_wait c ws)
+          (λ f. ap (weight (λ f x. counted_by counts (listed_in e.condvar.waiting) f x) f) (get-seen (λ k x. wait_seen x) (own of_wait c ws) f) ∙ at counts f (get (own of_wait c ws) f))
+          ∙ told_are counts (len e.condvar.notified) e (own of_wait c ws) refl (kept.each c e there)
 
   -- why it may not be dropped
   pub drop_unknown : (c : ℕ) → get cs c ≡ None → Some stops.Unknown ≡ borrowed_by (is_condvar old.hall c) (waits_of old.hall c)
@@ -108,6 +125,13 @@ pub given_up : (e e1 : KeptCondvar) (place : ℕ) (k : NamedWaker) → Lists e.c
 given_up e e1 place k lists is =
     ap (λ (d : KeptCondvar). record d { condvar = record d.condvar { waiting = without_wait d.condvar.waiting place } }) (is ∙ ap (λ s. record e { condvar = s }) lists.is)
     ∙ ap (λ q. record e { condvar = record e.condvar { waiting = q } }) (one.end-without e.condvar.waiting place k lists.not_waiting)
+
+-- where it is given up after what was there before was forgotten, that alone was
+pub forgotten_alone : (e e1 e2 e3 : KeptCondvar) (place : ℕ) (k : NamedWaker) (number : Option ℕ) → Lists e.condvar e1.condvar place k → e1 ≡ record e { condvar = e1.condvar } → e2 ≡ forgotten_under e1 number
+    → e3 ≡ record e2 { condvar = record e2.condvar { waiting = without_wait e2.condvar.waiting place } } → e3 ≡ forgotten_under e number
+forgotten_alone e e1 e2 e3 place k number lists is forgotten left =
+    left ∙ ap (λ (d : KeptCondvar). record d { condvar = record d.condvar { waiting = without_wait d.condvar.waiting place } }) forgotten
+    ∙ ap (λ (d : KeptCondvar). forgotten_under d number) (given_up e e1 place k lists is)
 
 -- and the waker that was counted for it is counted no more
 pub uncounted : (r r1 r2 r3 : Waking ℕ) → r1 ≡ record r { registered = r.registered + 1 } → r2 ≡ r1 → r3 ≡ record r2 { registered = r2.registered - 1 } → r3 ≡ r
@@ -460,7 +484,7 @@ module _ {old : Part Condvars} {i : ℕ} (s : Site old i) where
               let longer = length-append e.condvar.waiting ((place, record { future = f; waker = w }) ∷ []) in
               rw listed_is (
                 turns x.condvar e there (forgotten_under with_place x.number) (insert s.ws f lister) (comes lister refl)
-                    (rw (own-put of_wait x.condvar s.ws f lister refl) (one.lists e _ (good x.condvar e there) f x own_wait idle place w listed.not_waiting listed.not_notified lister refl refl)) (omega arith),
+                    (rw (own-put of_wait x.condvar s.ws f lister refl) (one.lists e _ (good x.condvar e there) f x own_wait idle place w listed.not_waiting listed.not_notified lister refl refl refl)) (omega arith),
                 asks_as answers.Pending yields _ _ (insert s.ws f lister) r2 (λ l. if_true _ _ _ (ap is_pending (sym yields.replied)) ∙ if_false _ _ _ (polled_now false polled))
                     (seen-insert condvar_seen s.cs x.condvar (forgotten_under with_place x.number) ∙ ap (insert (seen condvar_seen s.cs) x.condvar) (listed_end e.condvar.waiting)) (seen-insert wait_seen s.ws f lister) refl (omega (arith, counted, longer)),
               )
@@ -514,7 +538,7 @@ module _ {old : Part Condvars} {i : ℕ} (s : Site old i) where
               let fewer = ap (λ (r : Waking ℕ). r.registered) less in
               let shorter = one.left_length e.condvar.waiting n k.distinct (subst (IsWaitingUnder e.condvar) is under) in
               let all = total-has (λ o e. waiters e) s.cs x.condvar e there in (
-                turns x.condvar e there (left_under fewer_waits (Some n)) (remove s.ws f) goes (rw (own-gone of_wait x.condvar s.ws f) (one.leaves e _ k f x own_wait n is)) (omega arith),
+                turns x.condvar e there (left_under fewer_waits (Some n)) (remove s.ws f) goes (rw (own-gone of_wait x.condvar s.ws f) (one.leaves e _ k f x own_wait n is (subst (IsWaitingUnder e.condvar) is under))) (omega arith),
                 ends_as _ _ (remove s.ws f) r2 (if_true _ _ _ waits_now) (seen-insert condvar_seen s.cs x.condvar (left_under fewer_waits (Some n)) ∙ ap (insert (seen condvar_seen s.cs) x.condvar) seen_is) (seen-remove wait_seen s.ws f)
                     (ap (λ (r : Waking ℕ). r.wakers) less ∙ sym (append-nil r1.wakers)) (omega (arith, counted, fewer, shorter, all, enough_left)),
               )

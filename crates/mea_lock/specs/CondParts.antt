@@ -1,10 +1,10 @@
 -- the condition variables as the hall keeps them: what is seen of them, and what they keep to
-use Rattle.std.specs.Prelude.{ℕ, ◌≡◌, true, List, [], ◌∷◌, Some}
+use Rattle.std.specs.Prelude.{ℕ, ◌≡◌, Bool, true, false, List, [], ◌∷◌, Some, None, IsSome}
 use Rattle.std.specs.FinMap.{get, len, empty}
 use Rattle.mea_by_name.specs.declared.named_waker.NamedWaker.{NamedWaker}
 use Rattle.mea_by_name.specs.ByName.{Names, seen}
 use Rattle.mea_by_name.specs.HallKept.{HallKept}
-use Rattle.mea_lock_core.specs.Condvar.{Knows, AreApart}
+use Rattle.mea_lock_core.specs.Condvar.{Knows, AreApart, waker_under}
 use Rattle.mea_lock_model.specs.Condvars.{Condvars}
 use Rattle.mea_lock.specs.declared.wait_entry.WaitEntry.{WaitEntry}
 use Rattle.mea_lock.specs.CondEntries.{KeptCondvar, condvar_seen, wait_seen}
@@ -21,12 +21,20 @@ AreOf ws (e ∷ q) = ((x : WaitEntry) × (get ws e.1.future ≡ Some x) × (x.nu
 abbrev pub NumbersApart : Names WaitEntry → Type 0
 NumbersApart ws = (f g : ℕ) (x y : WaitEntry) (n : ℕ) → get ws f ≡ Some x → get ws g ≡ Some y → x.number ≡ Some n → y.number ≡ Some n → f ≡ g
 
+-- a wait has this number, and knows whether it was notified alone
+abbrev pub IsTold : Names WaitEntry → ℕ → Bool → Type 0
+IsTold ws n by_one = (f : ℕ) × (x : WaitEntry) × (get ws f ≡ Some x) × (x.number ≡ Some n) × (x.alone ≡ by_one)
+
 -- a condition variable and its waits
 pub record AreListed (e : KeptCondvar) (ws : Names WaitEntry) : Type 0 where
   pub waits : AreOf ws e.condvar.waiting
   -- a number is known to the condition variable, and is that of one wait, which was polled
   pub known : (f : ℕ) (x : WaitEntry) → get ws f ≡ Some x → (n : ℕ) → x.number ≡ Some n → Knows e.condvar n × (x.polled ≡ true)
   pub apart : NumbersApart ws
+  -- a number that was notified waits no more, and is that of a wait
+  pub notified : (n : ℕ) (by_one : Bool) → get e.condvar.notified n ≡ Some by_one → (waker_under e.condvar.waiting n ≡ None) × IsTold ws n by_one
+  -- one that waits was not notified alone
+  pub unnotified : (f : ℕ) (x : WaitEntry) → get ws f ≡ Some x → (n : ℕ) → x.number ≡ Some n → IsSome (waker_under e.condvar.waiting n) → x.alone ≡ false
   pub distinct : AreApart e.condvar.waiting
   -- its wakers are handed on after each event
   pub quiet : e.condvar.wakes ≡ []

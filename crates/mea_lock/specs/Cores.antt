@@ -46,6 +46,10 @@ abbrev pub IsFreeFor : Bool → NamedLock → Type 0
 IsFreeFor true l = held_of l.permits ≡ 0
 IsFreeFor false l = l.writing ≡ false
 
+-- what is held keeps a read out, or a write
+abbrev pub keeps_out : Bool → NamedLock → Bool
+keeps_out write l = if write then nat_lt 0 (held_of l.permits) else l.writing
+
 -- the free permits of a read or a write were taken
 pub record TakesLock (l : NamedLock) (write : Bool) (l' : NamedLock) : Type 0 where
   pub lock : l' ≡ record l { permits = record l.permits { free = l.permits.free - share_of l write }; writing = write }

@@ -1,6 +1,6 @@
 ghost use Rattle.std.specs.Prelude.{ℕ, ◌≡◌, ◌+◌, ◌-◌, ◌<◌, ◌≤◌, ◌^◌, ◌++◌, ◌||◌, [], nat_lt, length, map, cond, true, false, not, IfOk, OnErr};
 ghost use Rattle.mea_lock_core.specs.RwLock.{MayPoll, MayCancel, share_of, is_write};
-ghost use Rattle.mea_lock.specs.Cores.{NamedLock, CancelsLock, TakesLock, UnlocksLock, LowersLock, IsHeldAs};
+ghost use Rattle.mea_lock.specs.Cores.{NamedLock, CancelsLock, TakesLock, UnlocksLock, LowersLock, IsHeldAs, keeps_out};
 ghost use Rattle.mea_lock.specs.Waits.{IsNewWait, until_seen};
 
 use crate::guard_entry::GuardEntry;
@@ -168,6 +168,13 @@ impl<C: LockCore> LockEntry<C> {
         ensures { result ≡ is_over self.now }
     {
         !self.named && self.things == 0
+    }
+
+    /// Whether what is held keeps a future out, so that its poll waits.
+    pub fn keeps_out(&self, future: &FutureEntry<C>) -> bool
+        ensures { result ≡ keeps_out (is_write future.now.wait) self.now.lock }
+    {
+        self.core.keeps_out(C::writes(&future.wait))
     }
 
     /// One future or guard more.

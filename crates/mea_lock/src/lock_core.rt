@@ -1,6 +1,6 @@
 ghost use Rattle.std.specs.Prelude.{◌≡◌, ◌<◌, ◌≤◌, ◌∷◌, [], length, true, false, OnErr, IfOk, IfSome, IfNone};
 ghost use Rattle.mea_lock_core.specs.RwLock.{IsSound, MayPoll, MayCancel, share_of, is_write};
-ghost use Rattle.mea_lock.specs.Cores.{PollsLock, CancelsLock, TakesLock, UnlocksLock, LowersLock, IsHeldAs};
+ghost use Rattle.mea_lock.specs.Cores.{PollsLock, CancelsLock, TakesLock, UnlocksLock, LowersLock, IsHeldAs, keeps_out};
 ghost use Rattle.mea_lock.specs.Parts.{IsNewLock};
 ghost use Rattle.mea_lock.specs.Waits.{IsNewWait};
 
@@ -42,6 +42,10 @@ pub trait LockCore: Drop {
     fn queue_len(&self) -> usize
         ensures is { result ≡ length (lock_of self.now).permits.queue }
         ensures sound { IsSound (lock_of self.now) };
+
+    /// Whether what is held keeps a read out, or a write.
+    fn keeps_out(&self, write: bool) -> bool
+        ensures { result ≡ keeps_out write (lock_of self.now) };
 
     /// Takes the first waker that is ready.
     fn next_wake(&mut self) -> Option<NamedWaker>

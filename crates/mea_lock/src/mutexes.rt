@@ -34,6 +34,10 @@ impl LockCore for MutexCore<u64, NamedWaker> {
         MutexCore::queue_len(self)
     }
 
+    fn keeps_out(&self, _write: bool) -> bool {
+        self.is_held()
+    }
+
     fn next_wake(&mut self) -> Option<NamedWaker> {
         MutexCore::next_wake(self)
     }

@@ -246,7 +246,8 @@ impl<C: LockCore> LockPart<C> {
         Ok(Answer::Made)
     }
 
-    // Polls a future. Room for the guard is made first. On an error nothing has changed.
+    // Polls a future. Room for the guard is made first, but where what is held keeps the future out. On an error nothing has
+    // changed.
     fn poll(
         &mut self,
         number: u64,
@@ -266,6 +267,13 @@ impl<C: LockCore> LockPart<C> {
         }
         let guard = future.guard();
         let entry = self.locks.at_mut(guard.lock);
+        if entry.keeps_out(future) {
+            let Ok(_) = entry.poll(f, future, waker, ready) else {
+                return Err(Stop::NoMemory);
+            };
+            self.next = number as u128 + 1;
+            return Ok(Answer::Pending);
+        }
         let Ok(()) = self.guards.reserve(1) else {
             return Err(Stop::NoMemory);
         };

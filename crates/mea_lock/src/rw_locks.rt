@@ -35,6 +35,12 @@ impl LockCore for RwCore<u64, NamedWaker> {
         RwCore::queue_len(self)
     }
 
+    fn keeps_out(&self, write: bool) -> bool {
+        let writing = self.is_writing();
+        let readers = self.readers();
+        writing || (write && readers > 0)
+    }
+
     fn next_wake(&mut self) -> Option<NamedWaker> {
         RwCore::next_wake(self)
     }

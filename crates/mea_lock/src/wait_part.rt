@@ -244,30 +244,26 @@ impl WaitPart {
         let Ok(place) = entry.list(f, waker, ready) else {
             return Err(Stop::NoMemory);
         };
-        match mutexes.poll_until(number, f, waker, until_of(wait), ready) {
-            Err(_) => {
-                entry.unlist(place, ready);
-                Err(Stop::NoMemory)
-            }
-            Ok(Asked::Lays) => {
-                entry.forget_under(wait.number);
+        let Ok(asked) = mutexes.poll_until(number, f, waker, until_of(wait), ready) else {
+            entry.unlist(place, ready);
+            return Err(Stop::NoMemory);
+        };
+        entry.forget_under(wait.number);
+        self.next = number as u128 + 1;
+        match asked {
+            Asked::Lays => {
                 wait.list(place);
-                self.next = number as u128 + 1;
                 Ok(Answer::Pending)
             }
-            Ok(Asked::Asks) => {
+            Asked::Asks => {
                 entry.unlist(place, ready);
-                entry.forget_under(wait.number);
                 wait.ask();
-                self.next = number as u128 + 1;
                 Ok(Answer::Pending)
             }
-            Ok(Asked::Ready) => {
+            Asked::Ready => {
                 entry.unlist(place, ready);
-                entry.forget_under(wait.number);
                 entry.finish();
                 let _ = self.waits.remove(f);
-                self.next = number as u128 + 1;
                 Ok(Answer::Ready)
             }
         }

@@ -18,7 +18,6 @@ use Rattle.mea_family.specs.declared.stop.Stop.TheVariants as stops
 use Rattle.mea_by_name.specs.ByName.{Names, seen, own, is_of}
 use Rattle.mea_by_name.proofs.Cases.{found_is, if_true, if_false}
 use Rattle.mea_by_name.proofs.Own.{Moves, Stays, Comes, Goes, seen-at, seen-back, get-own, seen-insert, seen-remove, seen-alike, own-at, own-none, own-had, own-put, own-gone, insert_same, put_gone, gone_none, len-some, len-over, count-least, total-seen}
-use Rattle.mea_sets.specs.declared.place.Place.{Place}
 use Rattle.mea_sets.specs.Poll.{Ready, Pending}
 use Rattle.mea_sets.specs.WaitSet.{has_given}
 use Rattle.mea_meet_model.specs.Count.{Count, with_waker}
@@ -34,7 +33,7 @@ use Rattle.mea_meet.specs.declared.wait_entry.WaitEntry.{WaitEntry}
 use Rattle.mea_meet.specs.declared.count_wait.CountWait.{CountWait}
 use Rattle.mea_meet.specs.declared.count_wait.CountWait.TheVariants as waits
 use Rattle.mea_meet.specs.CountCores.{NamedPoint, arrived, joined, parted, handed_on, count_at, kept_by}
-use Rattle.mea_meet.specs.CountWaits.{end_of, slot_of, with_slot, borrowed_of, awaits_of}
+use Rattle.mea_meet.specs.CountWaits.{end_of, slot_of, borrowed_of, awaits_of}
 use Rattle.mea_meet.specs.CountEntries.{KeptPoint, Settles, Polled, is_full}
 use Rattle.mea_meet.specs.CountParts.{point_seen, holder_seen, wait_seen, counts_seen, of_holder, of_wait, borrowers_in, AreKept, AreKeptCounts, given_back_at, given_back}
 use Rattle.mea_family.specs.Acts.{Acts, ActsQuietly}
@@ -418,14 +417,10 @@ module _ {old : Part Counts} {i : ℕ} (s : Site old i) where
             (seen-insert point_seen s.ps y.point d ∙ ap (insert (seen point_seen s.ps) y.point) (ap point_seen it.1 ∙ seeing.core_registered e.point (end_of y.wait) (slot_of y.wait) (record { future = f; waker = w }) f w
             (one.names_now e (own of_wait y.point s.ws) (own of_holder y.point s.hs) (own of_itself y.point s.ss) s.next i (its s y.point e there) s.later f y own_future w)
             ∙ ap (λ d. model.with_count d (point_seen e) (with_waker (model.count_at d (point_seen e)) f w)) (sym (ends_seen y.wait)))) refl refl
-            (seen-alike wait_seen s.ws f y (record y { wait = x' }) future (λ j. record { point = y.point; awaits = (ap awaits_of it.2 ∙ awaits_same y.wait _) j }))
+            (seen-alike wait_seen s.ws f y (record y { wait = x' }) future (λ j. record { point = y.point; awaits = (ap awaits_of it.2 ∙ one.awaits_same y.wait _) j }))
             (each_turned s y.point e there s.ss s.hs (insert s.ws f (record y { wait = x' })) Stays Stays (Comes f (record y { wait = x' }) (let low = (s.kept.valid.waits.at f (wait_seen y) (seen-at wait_seen s.ws f y future)).0 in let later = s.later in omega (arith, low, later)) refl (λ z has. ap (λ (y : WaitEntry). y.point) (inside (sym has ∙ future)))) d
             (rw (own-put of_wait y.point s.ws f (record y { wait = x' }) refl, it.1) (one.waits_on e (own of_wait y.point s.ws) (own of_holder y.point s.hs) (own of_itself y.point s.ss) s.next i (its s y.point e there) s.later f y own_future w x' it.2)))
             before after (polled.wakers ∙ sym (append-nil before.wakers)) (omega (arith, now, counted))
-          where
-            awaits_same : (x : CountWait) (s : Option Place) → awaits_of (with_slot x s) ≡ awaits_of x
-            awaits_same (waits.Signal slot borrowed) s = refl
-            awaits_same (waits.Members slot) s = refl
 
         at : (b : Bool) → ((count_at (end_of y.wait) e.point).number == 0) ≡ b → Yields (actions.Poll f w) answers.Pending (insert s.ps y.point d) s.ss s.hs (insert s.ws f (record y { wait = x' })) before after
         at true test = absurd (let it = polled.turns.ready (eqb-true _ 0 test) in cc)

@@ -46,6 +46,10 @@ pub slot_there : (x : CountWait) → slot_at (end_of x) x ≡ slot_of x
 slot_there (waits.Signal slot borrowed) = refl
 slot_there (waits.Members slot) = refl
 
+pub awaits_same : (x : CountWait) (s : Option Place) → awaits_of (with_slot x s) ≡ awaits_of x
+awaits_same (waits.Signal slot borrowed) s = refl
+awaits_same (waits.Members slot) s = refl
+
 -- ---- borrowers
 pub borrows_plain : (plain : Bool) (j k : ℕ) → ◌≡◌ {A = ℕ} (cond (borrows (model.Signal (cond plain (Some j) None)) k) 1 0) (cond (j == k) (cond plain 1 0) 0)
 borrows_plain true j k = refl
@@ -200,10 +204,6 @@ module _ (e : KeptPoint) (ws : Names WaitEntry) (hs : Names HolderEntry) (ss : N
         where
           now : WaitEntry
           now = record y { wait = with_slot y.wait (slot_after (count_at (end_of y.wait) e.point).waiting (slot_of y.wait)) }
-
-          awaits_same : (x : CountWait) (s : Option Place) → awaits_of (with_slot x s) ≡ awaits_of x
-          awaits_same (waits.Signal slot borrowed) s = refl
-          awaits_same (waits.Members slot) s = refl
 
           quiet_at : (d : End) → (with_count d e.point (record (count_at d e.point) { waiting = with_waker (count_at d e.point).waiting (slot_of y.wait) (record { future = f; waker = w }) })).wakes ≡ []
           quiet_at OfSignal = a.quiet

@@ -19,6 +19,7 @@ use Rattle.mea_meet_model.specs.Counts as counts
 use Rattle.mea_meet_model.specs.Counts.{Counts, Point, End, OfSignal, OfMembers, Holder, Awaited, Signal, Members, Wait, New, count_at, with_count, end_of, joined, parted, woken_by_end, is_holder, registered, things_of, of_wait}
 use Rattle.mea_meet_model.specs.CountActions.{Action, Make, Number, Try, Now, Arrive, Begin, Join, Watch, Into, EndHolder, Copy, Poll, EndWait, EndEither, CopySender, Send, Await, EndSender, act_in, polled_in, ends_in, registers_in, end_by, leave_by}
 use Rattle.mea_meet_model.specs.Valid.{HasCounts}
+use Rattle.mea_meet_model.proofs.ByHolder.{by_holder}
 
 -- who is registered on an end
 abbrev pub queue_at : End → Point → Waiting
@@ -230,26 +231,22 @@ module _ (h : Counts) (polled : ℕ → Option ℕ) (ends : ℕ → Bool) (i mos
   nobody : ((f : ℕ) → ends f ≡ true → ⊥) → IsReached h → (f : ℕ) → ends f ≡ true → get h.waits f ≡ None
   nobody none reached f is = absurd (none f is)
 
-  module _ (none : (f : ℕ) → ends f ≡ true → ⊥) where
-    idle : Acts (quietly h answers.Done)
-    idle = still (nobody none)
-
-    by_holder : (k : ℕ) (act : Holder → Point → Outcome Counts) → ((x : Holder) (r : Point) → get h.holders k ≡ Some x → get h.points x.point ≡ Some r → Acts (act x r)) → Acts (found (get h.holders k) h (λ x. found (get h.points x.point) h (act x)))
-    by_holder k act each = by_found Acts (get h.holders k) h _ idle (λ x holder. by_found Acts (get h.points x.point) h _ idle (λ r there. each x r holder there))
+  idle : ((f : ℕ) → ends f ≡ true → ⊥) → Acts (quietly h answers.Done)
+  idle none = still (nobody none)
 
   holder_leaves : (k : ℕ) → (IsReached h → (f : ℕ) → ends f ≡ true → get h.waits f ≡ None) → Acts (leave_by h k)
   holder_leaves k over = by_found Acts (get h.holders k) h _ (still over) (λ x holder. by_found Acts (get h.points x.point) h _ (still over) (λ r there. ends_holder over k x r there))
 
   pub acts : (a : Action) → Asks a → Acts (act_in h i a)
   acts (Make new) none = makes (nobody none) new
-  acts (Number k) none = by_holder none k (λ x. counts.number h) (λ x r holder there. rests (nobody none) (counts.number h r) refl refl refl)
-  acts (Try k) none = by_holder none k (λ x. counts.try h) (λ x r holder there. rests (nobody none) (counts.try h r) refl refl refl)
-  acts (Now k) none = by_holder none k (λ x. counts.now h) (λ x r holder there. rests (nobody none) (counts.now h r) refl refl refl)
-  acts (Arrive k m) none = by_holder none k (λ x. counts.arrive h m x.point) (λ x r holder there. arrives (nobody none) m x.point r there)
+  acts (Number k) none = by_holder Acts h (idle none) k (λ x. counts.number h) (λ x r holder there. rests (nobody none) (counts.number h r) refl refl refl)
+  acts (Try k) none = by_holder Acts h (idle none) k (λ x. counts.try h) (λ x r holder there. rests (nobody none) (counts.try h r) refl refl refl)
+  acts (Now k) none = by_holder Acts h (idle none) k (λ x. counts.now h) (λ x r holder there. rests (nobody none) (counts.now h r) refl refl refl)
+  acts (Arrive k m) none = by_holder Acts h (idle none) k (λ x. counts.arrive h m x.point) (λ x r holder there. arrives (nobody none) m x.point r there)
   acts (Begin k plain) none = by_found Acts (get h.holders k) h _ (idle none) (λ x holder. begins none (counts.begin h i k plain x) (record { point = x.point; awaits = Signal (cond plain (Some k) None) }) [] [] refl (same i) refl (λ reached. (reached.1.holders.at k x holder).1))
-  acts (Join k) none = by_holder none k (λ x. counts.join h i x.point x.counted) (λ x r holder there. joins (nobody none) x.point x.counted r there)
-  acts (Watch k) none = by_holder none k (λ x. counts.join h i x.point false) (λ x r holder there. joins (nobody none) x.point false r there)
-  acts (Into k) none = by_holder none k (counts.into h i k) (λ x r holder there. goes_over none k x r there)
+  acts (Join k) none = by_holder Acts h (idle none) k (λ x. counts.join h i x.point x.counted) (λ x r holder there. joins (nobody none) x.point x.counted r there)
+  acts (Watch k) none = by_holder Acts h (idle none) k (λ x. counts.join h i x.point false) (λ x r holder there. joins (nobody none) x.point false r there)
+  acts (Into k) none = by_holder Acts h (idle none) k (counts.into h i k) (λ x r holder there. goes_over none k x r there)
   acts (EndHolder k) none = holder_leaves k (nobody none)
   acts (Copy f) none = by_found Acts (get h.waits f) h _ (idle none) (λ x future. begins none (counts.copy h i x) (record { point = x.point; awaits = Members }) [] [] refl (same i) refl (λ reached. (reached.1.waits.at f x future).1))
   acts (Poll f w) asks = by_found Acts (get h.waits f) h _ (idle asks.1) (λ x future. by_found Acts (get h.points x.point) h _ (idle asks.1) (λ r there. polls asks.1 f w x asks.0 asks.2 r there))

@@ -5,7 +5,6 @@ use Rattle.std.proofs.lemmas.Bool.{eqb-true, eqb-false}
 use Rattle.mea_base.proofs.Maps.{by_put, by_gone, inside, is_there, value_in, get-there, get-other, removed_there, total-has}
 use Rattle.mea_family.proofs.Refusals.{not_borrowed}
 use Rattle.mea_family.specs.Family.{Outcome, quietly}
-use Rattle.mea_family.specs.Play.{found}
 use Rattle.mea_family.specs.declared.answer.Answer.TheVariants as answers
 use Rattle.mea_by_name.specs.ByName.{Names, own}
 use Rattle.mea_by_name.specs.NamedQueue.{waker_for}
@@ -16,6 +15,7 @@ use Rattle.mea_meet_model.specs.Counts as counts
 use Rattle.mea_meet_model.specs.Counts.{Counts, Point, End, OfSignal, OfMembers, Holder, Awaited, Signal, Members, Wait, New, new_point, count_at, with_count, end_of, borrows, joined, parted, is_holder, borrowers_of, of_itself, of_holder, of_wait}
 use Rattle.mea_meet_model.specs.CountActions.{Action, Make, Number, Try, Now, Arrive, Begin, Join, Watch, Into, EndHolder, Copy, Poll, EndWait, EndEither, CopySender, Send, Await, EndSender, cause_in, act_in, end_by, leave_by}
 use Rattle.mea_meet_model.specs.Valid.{IsPoint, AreThere, HasCounts, BorrowNothing}
+use Rattle.mea_meet_model.proofs.ByHolder.{by_holder}
 use Rattle.mea_meet_model.proofs.OnePoint as one
 use Rattle.mea_meet_model.proofs.OnePoint.{decreased-was}
 use Rattle.mea_meet_model.proofs.CountsKept.{counts_later, no_point, no_holder, no_wait, no_sender, old_new, old_gone, put, turned, tidies}
@@ -183,20 +183,16 @@ module _ (h : Counts) (n i : ℕ) (v : HasCounts h n) (later : n ≤ i) where
       no_holders : own of_holder i h.holders ≡ empty
       no_holders = own-empty of_holder i h.holders (λ k x is mine. absent (subst (λ o. IsSome (get h.points o)) (sym mine) (v.holders.at k x is).1))
 
-  by_holder : (k : ℕ) (act : Holder → Point → Outcome Counts) → ((x : Holder) (r : Point) → get h.holders k ≡ Some x → get h.points x.point ≡ Some r → Keeps (act x r))
-      → Keeps (found (get h.holders k) h (λ x. found (get h.points x.point) h (act x)))
-  by_holder k act keeps = by_found Keeps (get h.holders k) h _ still (λ x holder. by_found Keeps (get h.points x.point) h _ still (λ r there. keeps x r holder there))
-
   pub keeps : (a : Action) → cause_in h a ≡ None → MayAct h a → Keeps (act_in h i a)
   keeps (Make new) allowed may = makes new may
-  keeps (Number k) allowed may = by_holder k (λ x. counts.number h) (λ x r holder there. still)
-  keeps (Try k) allowed may = by_holder k (λ x. counts.try h) (λ x r holder there. still)
-  keeps (Now k) allowed may = by_holder k (λ x. counts.now h) (λ x r holder there. still)
-  keeps (Arrive k m) allowed may = by_holder k (λ x. counts.arrive h m x.point) (λ x r holder there. arrives x.point r there m)
+  keeps (Number k) allowed may = by_holder Keeps h still k (λ x. counts.number h) (λ x r holder there. still)
+  keeps (Try k) allowed may = by_holder Keeps h still k (λ x. counts.try h) (λ x r holder there. still)
+  keeps (Now k) allowed may = by_holder Keeps h still k (λ x. counts.now h) (λ x r holder there. still)
+  keeps (Arrive k m) allowed may = by_holder Keeps h still k (λ x. counts.arrive h m x.point) (λ x r holder there. arrives x.point r there m)
   keeps (Begin k plain) allowed may = by_found Keeps (get h.holders k) h _ still (λ x holder. new_wait x.point (v.holders.at k x holder).1 (Signal (cond plain (Some k) None)) (lends k x holder plain))
-  keeps (Join k) allowed may = by_holder k (λ x. counts.join h i x.point x.counted) (λ x r holder there. joins x.point r there x.counted)
-  keeps (Watch k) allowed may = by_holder k (λ x. counts.join h i x.point false) (λ x r holder there. joins x.point r there false)
-  keeps (Into k) allowed may = by_holder k (counts.into h i k) (λ x r holder there. goes_over x.point r there k x holder refl (λ f y is. members_borrow y.awaits k (may f y is)))
+  keeps (Join k) allowed may = by_holder Keeps h still k (λ x. counts.join h i x.point x.counted) (λ x r holder there. joins x.point r there x.counted)
+  keeps (Watch k) allowed may = by_holder Keeps h still k (λ x. counts.join h i x.point false) (λ x r holder there. joins x.point r there false)
+  keeps (Into k) allowed may = by_holder Keeps h still k (counts.into h i k) (λ x r holder there. goes_over x.point r there k x holder refl (λ f y is. members_borrow y.awaits k (may f y is)))
   keeps (EndHolder k) allowed may = leaves_by k (none_borrows h k (not_borrowed (is_holder h k) (borrowers_of h k) allowed))
   keeps (Copy f) allowed may = by_found Keeps (get h.waits f) h _ still (λ x future. new_wait x.point (v.waits.at f x future).1 Members (λ k is. absurd (cc)))
   keeps (Poll f w) allowed may = by_found Keeps (get h.waits f) h _ still (λ x future. by_found Keeps (get h.points x.point) h _ still (λ r there.
@@ -228,19 +224,16 @@ borrow_nothing h i a no_begin none = at a no_begin
     leaves : (k : ℕ) → P (leave_by h k)
     leaves k = by_found P (get h.holders k) h _ none (λ x holder. by_found P (get h.points x.point) h _ none (λ r there. none))
 
-    by_holder : (k : ℕ) (act : Holder → Point → Outcome Counts) → ((x : Holder) (r : Point) → P (act x r)) → P (found (get h.holders k) h (λ x. found (get h.points x.point) h (act x)))
-    by_holder k act each = by_found P (get h.holders k) h _ none (λ x holder. by_found P (get h.points x.point) h _ none (λ r there. each x r))
-
     at : (a : Action) → ((k : ℕ) (plain : Bool) → a ≡ Begin k plain → ⊥) → P (act_in h i a)
     at (Make fresh) ban = none
-    at (Number k) ban = by_holder k (λ x. counts.number h) (λ x r. none)
-    at (Try k) ban = by_holder k (λ x. counts.try h) (λ x r. none)
-    at (Now k) ban = by_holder k (λ x. counts.now h) (λ x r. none)
-    at (Arrive k m) ban = by_holder k (λ x. counts.arrive h m x.point) (λ x r. none)
+    at (Number k) ban = by_holder P h none k (λ x. counts.number h) (λ x r holder there. none)
+    at (Try k) ban = by_holder P h none k (λ x. counts.try h) (λ x r holder there. none)
+    at (Now k) ban = by_holder P h none k (λ x. counts.now h) (λ x r holder there. none)
+    at (Arrive k m) ban = by_holder P h none k (λ x. counts.arrive h m x.point) (λ x r holder there. none)
     at (Begin k plain) ban = absurd (ban k plain refl)
-    at (Join k) ban = by_holder k (λ x. counts.join h i x.point x.counted) (λ x r. none)
-    at (Watch k) ban = by_holder k (λ x. counts.join h i x.point false) (λ x r. none)
-    at (Into k) ban = by_holder k (counts.into h i k) (λ x r. none_new x.point)
+    at (Join k) ban = by_holder P h none k (λ x. counts.join h i x.point x.counted) (λ x r holder there. none)
+    at (Watch k) ban = by_holder P h none k (λ x. counts.join h i x.point false) (λ x r holder there. none)
+    at (Into k) ban = by_holder P h none k (counts.into h i k) (λ x r holder there. none_new x.point)
     at (EndHolder k) ban = leaves k
     at (Copy f) ban = by_found P (get h.waits f) h _ none (λ x future. none_new x.point)
     at (Poll f w) ban = by_found P (get h.waits f) h _ none (λ x future. by_found P (get h.points x.point) h _ none (λ r there. by_if P ((count_at (end_of x.awaits) r).number == 0) _ _ (λ over. less f) (λ goes_on. none)))

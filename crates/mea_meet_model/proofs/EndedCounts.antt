@@ -3,7 +3,6 @@ use Rattle.std.proofs.Common.{◌≡◌, ℕ, ◌<◌, ◌≤◌, ◌==◌, Bool
 use Rattle.std.specs.FinMap.{get, insert, remove}
 use Rattle.mea_base.proofs.Maps.{by_at_put, by_at_gone, at_or, total-has}
 use Rattle.mea_family.specs.Family.{Outcome}
-use Rattle.mea_family.specs.Play.{found}
 use Rattle.mea_by_name.specs.ByName.{Names, own}
 use Rattle.mea_by_name.proofs.Cases.{by_found, by_if}
 use Rattle.mea_by_name.proofs.Own.{own-at}
@@ -15,6 +14,7 @@ use Rattle.mea_meet_model.specs.Hall.{Hall, Latches, Groups, Shutdowns}
 use Rattle.mea_meet_model.specs.Meaning.{Meaning, OnBarriers, OnCounts}
 use Rattle.mea_meet_model.specs.Step.{step_by}
 use Rattle.mea_meet_model.specs.Valid.{HasCounts}
+use Rattle.mea_meet_model.proofs.ByHolder.{by_holder}
 use Rattle.mea_meet_model.proofs.CountsKept.{no_point}
 
 abbrev over : Point
@@ -66,14 +66,11 @@ module _ (h : Counts) (n i : ℕ) (v : HasCounts h n) (later : n ≤ i) where
   made new o e = by_at_put over h.points i (new_point new) (λ o t. IsSome (get h.points o) → (count_at e (at_or over h.points o)).number ≡ 0 → (count_at e t).number ≡ 0)
       (λ some none. absurd (let absent = ap is_some (no_point h n i v later) in let no = sym absent ∙ some in cc)) (λ o apart some none. none) o
 
-  by_holder : (k : ℕ) (act : Holder → Point → Outcome Counts) → ((x : Holder) (r : Point) → get h.holders k ≡ Some x → get h.points x.point ≡ Some r → P (act x r)) → P (found (get h.holders k) h (λ x. found (get h.points x.point) h (act x)))
-  by_holder k act each = by_found P (get h.holders k) h _ still (λ x holder. by_found P (get h.points x.point) h _ still (λ r there. each x r holder there))
-
   ends_by : (f : ℕ) → P (end_by h f)
   ends_by f = by_found P (get h.waits f) h _ still (λ x future. by_found P (get h.points x.point) h _ still (λ r there. tidied (record h { waits = remove h.waits f }) x.point r r refl there (λ e none. none)))
 
   leaves_by : (k : ℕ) → P (leave_by h k)
-  leaves_by k = by_holder k (counts.end_holder h k) (λ x r holder there. tidied (record h { holders = remove h.holders k }) x.point r (parted r x.counted) refl there (ends-parted r x.counted))
+  leaves_by k = by_holder P h still k (counts.end_holder h k) (λ x r holder there. tidied (record h { holders = remove h.holders k }) x.point r (parted r x.counted) refl there (ends-parted r x.counted))
 
   some_counted : (k : ℕ) (x : Holder) (r : Point) → get h.holders k ≡ Some x → get h.points x.point ≡ Some r → x.counted ≡ true → 0 < r.members.number
   some_counted k x r holder there is =
@@ -90,14 +87,14 @@ module _ (h : Counts) (n i : ℕ) (v : HasCounts h n) (later : n ≤ i) where
 
   lasts : (a : Action) → P (act_in h i a)
   lasts (Make new) = made new
-  lasts (Number k) = by_holder k (λ x. counts.number h) (λ x r holder there. still)
-  lasts (Try k) = by_holder k (λ x. counts.try h) (λ x r holder there. still)
-  lasts (Now k) = by_holder k (λ x. counts.now h) (λ x r holder there. still)
-  lasts (Arrive k m) = by_holder k (λ x. counts.arrive h m x.point) (λ x r holder there. put x.point r (record r { signal = decreased r.signal m }) there (ends-fewer r m))
+  lasts (Number k) = by_holder P h still k (λ x. counts.number h) (λ x r holder there. still)
+  lasts (Try k) = by_holder P h still k (λ x. counts.try h) (λ x r holder there. still)
+  lasts (Now k) = by_holder P h still k (λ x. counts.now h) (λ x r holder there. still)
+  lasts (Arrive k m) = by_holder P h still k (λ x. counts.arrive h m x.point) (λ x r holder there. put x.point r (record r { signal = decreased r.signal m }) there (ends-fewer r m))
   lasts (Begin k plain) = by_found P (get h.holders k) h _ still (λ x holder. still)
-  lasts (Join k) = by_holder k (λ x. counts.join h i x.point x.counted) (λ x r holder there. put x.point r (joined r x.counted) there (ends-joined r x.counted (some_counted k x r holder there)))
-  lasts (Watch k) = by_holder k (λ x. counts.join h i x.point false) (λ x r holder there. put x.point r (joined r false) there (ends-joined r false (λ is. absurd (cc))))
-  lasts (Into k) = by_holder k (counts.into h i k) (λ x r holder there. put x.point r (parted r x.counted) there (ends-parted r x.counted))
+  lasts (Join k) = by_holder P h still k (λ x. counts.join h i x.point x.counted) (λ x r holder there. put x.point r (joined r x.counted) there (ends-joined r x.counted (some_counted k x r holder there)))
+  lasts (Watch k) = by_holder P h still k (λ x. counts.join h i x.point false) (λ x r holder there. put x.point r (joined r false) there (ends-joined r false (λ is. absurd (cc))))
+  lasts (Into k) = by_holder P h still k (counts.into h i k) (λ x r holder there. put x.point r (parted r x.counted) there (ends-parted r x.counted))
   lasts (EndHolder k) = leaves_by k
   lasts (Copy f) = by_found P (get h.waits f) h _ still (λ x future. still)
   lasts (Poll f w) = by_found P (get h.waits f) h _ still (λ x future. by_found P (get h.points x.point) h _ still (λ r there. by_if P ((count_at (end_of x.awaits) r).number == 0) _ _

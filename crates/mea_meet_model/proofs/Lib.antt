@@ -1,3 +1,4 @@
+pub mod ByHolder
 pub mod OnePoint
 pub mod CountsKept
 pub mod CountEvents

@@ -17,22 +17,20 @@ use Rattle.mea_meet_model.specs.Barriers as barriers
 use Rattle.mea_meet_model.specs.Barriers.{Barriers, Barrier, BarrierWait, new_barrier, barrier_at, leads, has_completed}
 use Rattle.mea_meet_model.specs.BarrierActions as at_barriers
 use Rattle.mea_meet_model.specs.Counts as counts
-use Rattle.mea_meet_model.specs.Counts.{Counts, Point, Holder, count_at, end_of, is_holder}
+use Rattle.mea_meet_model.specs.Counts.{Counts, count_at, end_of, is_holder}
 use Rattle.mea_meet_model.specs.CountActions.{Action, Make, Number, Try, Now, Arrive, Begin, Join, Watch, Into, EndHolder, Copy, Poll, EndWait, EndEither, CopySender, Send, Await, EndSender, act_in, end_by}
 use Rattle.mea_meet_model.specs.Hall.{Hall, Kind, Latches, Groups, Shutdowns, part}
 use Rattle.mea_meet_model.specs.Meaning.{Meaning, OnBarriers, OnCounts, meaning_of}
 use Rattle.mea_meet_model.specs.Step.{step_by, step}
 use Rattle.mea_meet_model.specs.Leaders.{is_leader, leads_new, leads_there, leads_wait, leads_meant, leads_by, arrivals_new, arrivals_wait, arrivals_meant, arrivals_by, leaders}
 use Rattle.mea_meet_model.specs.Valid.{HasBarriers, IsValid}
+use Rattle.mea_meet_model.proofs.ByHolder.{by_holder}
 use Rattle.mea_meet_model.proofs.Rounds.{same_round, next_round, one_round}
 
 -- ---- points that count have no leader
 module _ (h : Counts) (i : ℕ) where
   abbrev P : Outcome Counts → Type 0
   P o = is_leader o.reply ≡ false
-
-  by_holder : (k : ℕ) (act : Holder → Point → Outcome Counts) → ((x : Holder) (r : Point) → P (act x r)) → P (found (get h.holders k) h (λ x. found (get h.points x.point) h (act x)))
-  by_holder k act each = by_found P (get h.holders k) h _ refl (λ x holder. by_found P (get h.points x.point) h _ refl (λ r there. each x r))
 
   ends : (f : ℕ) → P (end_by h f)
   ends f = by_found P (get h.waits f) h _ refl (λ x future. by_found P (get h.points x.point) h _ refl (λ r there. refl))
@@ -43,19 +41,19 @@ module _ (h : Counts) (i : ℕ) where
 
   pub none_leads : (a : Action) → P (act_in h i a)
   none_leads (Make new) = refl
-  none_leads (Number k) = by_holder k (λ x. counts.number h) (λ x r. refl)
-  none_leads (Try k) = by_holder k (λ x. counts.try h) (λ x r. told (r.signal.number == 0) answers.Accepted (answers.Left r.signal.number) refl refl)
-  none_leads (Now k) = by_holder k (λ x. counts.now h) (λ x r. told (r.signal.number == 0) answers.Yes answers.No refl refl)
-  none_leads (Arrive k m) = by_holder k (λ x. counts.arrive h m x.point) (λ x r. refl)
+  none_leads (Number k) = by_holder P h refl k (λ x. counts.number h) (λ x r holder there. refl)
+  none_leads (Try k) = by_holder P h refl k (λ x. counts.try h) (λ x r holder there. told (r.signal.number == 0) answers.Accepted (answers.Left r.signal.number) refl refl)
+  none_leads (Now k) = by_holder P h refl k (λ x. counts.now h) (λ x r holder there. told (r.signal.number == 0) answers.Yes answers.No refl refl)
+  none_leads (Arrive k m) = by_holder P h refl k (λ x. counts.arrive h m x.point) (λ x r holder there. refl)
   none_leads (Begin k plain) = by_found P (get h.holders k) h _ refl (λ x holder. refl)
-  none_leads (Join k) = by_holder k (λ x. counts.join h i x.point x.counted) (λ x r. refl)
-  none_leads (Watch k) = by_holder k (λ x. counts.join h i x.point false) (λ x r. refl)
-  none_leads (Into k) = by_holder k (counts.into h i k) (λ x r. refl)
-  none_leads (EndHolder k) = by_holder k (counts.end_holder h k) (λ x r. refl)
+  none_leads (Join k) = by_holder P h refl k (λ x. counts.join h i x.point x.counted) (λ x r holder there. refl)
+  none_leads (Watch k) = by_holder P h refl k (λ x. counts.join h i x.point false) (λ x r holder there. refl)
+  none_leads (Into k) = by_holder P h refl k (counts.into h i k) (λ x r holder there. refl)
+  none_leads (EndHolder k) = by_holder P h refl k (counts.end_holder h k) (λ x r holder there. refl)
   none_leads (Copy f) = by_found P (get h.waits f) h _ refl (λ x future. refl)
   none_leads (Poll f w) = by_found P (get h.waits f) h _ refl (λ x future. by_found P (get h.points x.point) h _ refl (λ r there. by_if P ((count_at (end_of x.awaits) r).number == 0) _ _ (λ over. refl) (λ goes_on. refl)))
   none_leads (EndWait f) = ends f
-  none_leads (EndEither k) = by_if P (is_holder h k) _ _ (λ holder. by_holder k (counts.end_holder h k) (λ x r. refl)) (λ future. ends k)
+  none_leads (EndEither k) = by_if P (is_holder h k) _ _ (λ holds. by_holder P h refl k (counts.end_holder h k) (λ x r holder there. refl)) (λ future. ends k)
   none_leads (CopySender k) = by_found P (get h.senders k) h _ refl (λ o sender. refl)
   none_leads (Send k) = by_found P (get h.senders k) h _ refl (λ o sender. by_found P (get h.points o) h _ refl (λ r there. refl))
   none_leads (Await k) = by_found P (get h.senders k) h _ refl (λ o sender. refl)

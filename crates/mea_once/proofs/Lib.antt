@@ -1,6 +1,7 @@
 mod Turns
 mod Permits
 mod OneCell
+mod Granted
 mod Steps
 mod Others
 mod Causes
@@ -19,6 +20,6 @@ mod KeyEnds
 mod KeyWays
 mod KeyDiscards
 mod KeyAnswers
-mod TableEvents
 mod Validity
+mod TableEvents
 pub mod Playing

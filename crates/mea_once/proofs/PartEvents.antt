@@ -31,13 +31,15 @@ use Rattle.mea_once_model.specs.declared.errand.Errand.TheVariants.{Calls, Compu
 use Rattle.mea_once_model.specs.declared.whole_use.WholeUse.{WholeUse}
 use Rattle.mea_once_model.specs.Cells as model
 use Rattle.mea_once_model.specs.Cells.{Cell, CellFuture, Cells, Step, is_cell, is_future, is_unsettled, settles_in, futures_of, alone_of, registered, waiting_at, is_alone, settled}
+use Rattle.mea_once_model.specs.Valid.{of_cell}
 use Rattle.mea_once_model.specs.Actions.{act_in, Make, Begin, Poll, Settle, End, TellFull, Tell, Use, TakeOut, Drop, in_the_way}
 use Rattle.mea_once.specs.declared.future_entry.FutureEntry.{FutureEntry}
 use Rattle.mea_once.specs.Cores.{NamedCell, IsSoundCell}
 use Rattle.mea_once.specs.Entries.{KeptCell, begun, keeps, of_running, left_by}
 use Rattle.mea_once.specs.Parts.{is_polled, cell_seen, future_seen, cells_seen, runner_of, fits, gives_nothing, AreKept, Stands, Stepped, turned_to, IsOf, of_future, of_none, AreKeptCells, IsNewCell, FitsSettled}
-use Rattle.mea_once.specs.Lends.{StandsFor}
+use Rattle.mea_once.specs.Lends.{turns_in, StandsFor}
 use Rattle.mea_once.proofs.Causes.{borrowed_at}
+use Rattle.mea_once.proofs.Granted.{turns_granted, keeper_holds}
 use Rattle.mea_once.proofs.OneCell.{begins, idle, new_tied}
 use Rattle.mea_cores_by_name.proofs.Waiters.{length-names}
 use Rattle.mea_cores_by_name.proofs.Sets.{length-set_names}
@@ -104,7 +106,12 @@ module _ (once : Bool) {old : Part Cells} (es : Names KeptCell) (fs : Names Futu
       taken = refl;
       queue = refl;
       waits = refl;
+      granted = ap (turns_in (cell_seen e)) own_is ∙ turns_granted once e (own of_future o fs) (kept.hall.each o e there);
+      runs = λ f w x keeps is shared. keeper_holds once e (own of_future o fs) (kept.hall.each o e there) e.running refl f w x keeps (sym (ap (λ m. get m f) own_is) ∙ is) shared;
     }
+      where
+        own_is : own of_cell o old.hall.futures ≡ seen future_seen (own of_future o fs)
+        own_is = ap (λ (p : Part Cells). own of_cell o p.hall.futures) (sym view) ∙ own_seen
 
   -- why a use of a cell is refused: for who shares it, for who uses it alone, and for a new future
   module _ (kept : AreKeptCells once es fs next) (o : ℕ) where

@@ -1,5 +1,5 @@
 -- what each event does to the maps or groups, as they are kept and as they are seen
-use Rattle.std.proofs.Common.{◌≡◌, ℕ, ◌+◌, ◌<◌, ◌≤◌, ◌^◌, ◌++◌, Bool, true, false, cond, length, [], Option, Some, None, option_map, is_some, refl, ap, sym, subst, ◌∙◌, arith, if◌then◌else◌}
+use Rattle.std.proofs.Common.{◌≡◌, ◌⊎◌, inl, inr, ℕ, ◌+◌, ◌<◌, ◌≤◌, ◌^◌, ◌++◌, Bool, true, false, cond, length, [], Option, Some, None, option_map, is_some, refl, ap, sym, subst, ◌∙◌, arith, if◌then◌else◌}
 use Rattle.std.specs.Option.{IsSome}
 use Rattle.std.specs.FinMap.{get, insert, remove, len, empty, len-empty, get-empty}
 use Rattle.std.specs.Ordering.{nat_cmp}
@@ -18,7 +18,7 @@ use Rattle.mea_by_name.specs.HallKept.{HallKept}
 use Rattle.mea_family.specs.Play.{Part, PartYields, PartRests, found, content}
 use Rattle.mea_by_name.proofs.Cases.{found_is}
 use Rattle.mea_by_name.proofs.Halls as halls
-use Rattle.mea_by_name.proofs.Own.{count-least, seen-at, seen-empty, seen-insert, seen-remove, seen-alike, own-seen, len-seen, len-new, total-seen, own-at, own-had, own-none, own-put, own-gone, own-empty, insert_same, put_gone, gone_none, Moves, Stays, Comes, Goes}
+use Rattle.mea_by_name.proofs.Own.{count-least, seen-at, seen-back, seen-empty, seen-insert, seen-remove, seen-alike, own-seen, len-seen, len-new, total-seen, own-at, own-had, own-none, own-put, own-gone, own-empty, insert_same, put_gone, gone_none, Moves, Stays, Comes, Goes}
 use Rattle.mea_once_core.specs.Table.{entry_at}
 use Rattle.mea_once_core.specs.Waiting.{waiting_at, waiting_in}
 use Rattle.mea_once_core.proofs.Waits.{same-waiting}
@@ -28,6 +28,7 @@ use Rattle.mea_once_model.specs.Cells as cells
 use Rattle.mea_once_model.specs.Cells.{Cell}
 use Rattle.mea_once_model.specs.Tables as model
 use Rattle.mea_once_model.specs.Tables.{Table, KeyFuture as ModelFuture, Tables, is_table, is_future, is_unsettled, settles_in, futures_of, others_of, registered, is_this, without_key}
+use Rattle.mea_once_model.specs.Valid.{callers_in}
 use Rattle.mea_once_model.specs.KeyActions.{key_act, with_future, MakeTable, BeginKey, PollKey, SettleKey, EndKey, TellKey, DiscardKey, RemoveKey, DropTable}
 use Rattle.mea_once.specs.declared.key_future.KeyFuture.{KeyFuture}
 use Rattle.mea_once.specs.declared.round.Round.{Round}
@@ -36,18 +37,20 @@ use Rattle.mea_once_core.specs.declared.cell_stage.CellStage.TheVariants.{New}
 use Rattle.mea_once.specs.Entries.{of_running}
 use Rattle.mea_once.specs.KeyCores.{NamedKeyed}
 use Rattle.mea_once.specs.KeyEntries.{KeptTable, IsSameTable}
-use Rattle.mea_once.specs.Lends.{StandsForTable, IsRoundOf}
+use Rattle.mea_once.specs.Lends.{turns_in, callers_at, StandsForTable, IsRoundOf}
 use Rattle.mea_once_core.specs.Links.{Shown}
 use Rattle.mea_by_name.specs.declared.named_waker.NamedWaker.{NamedWaker}
 use Rattle.mea_once.specs.Parts as parts
 use Rattle.mea_once.specs.Parts.{of_none}
-use Rattle.mea_once.specs.KeyParts.{values_in, callers_of, kept_cell, round_seen, round_in, table_seen, key_future_seen, tables_seen, IsRound, IsKey, Absent, Computing, Valued, value_of, waiting_of, AreTogether, table_keeps, RoundsBelow, others, turned_to, left_by, IsOfTable, StandsTable, SteppedTable, of_table, AreTables, IsNewKeyed}
+use Rattle.mea_once.specs.KeyParts.{values_in, callers_of, kept_cell, round_seen, round_in, table_seen, key_future_seen, tables_seen, IsRound, HasRound, IsKey, Absent, Computing, Valued, value_of, waiting_of, AreTogether, table_keeps, RoundsBelow, others, turned_to, left_by, IsOfTable, StandsTable, SteppedTable, of_table, AreTables, IsNewKeyed}
 use Rattle.mea_once.proofs.Causes.{borrowed_at}
 use Rattle.mea_once.proofs.PartEvents.{keeps_seen}
 use Rattle.mea_once.proofs.KeySteps.{number}
 use Rattle.mea_once.proofs.KeyTables.{get_values, value_at}
 use Rattle.mea_once.proofs.KeyStarts.{count_callers}
 use Rattle.mea_once.proofs.KeyCalls.{seen_round}
+use Rattle.mea_once.proofs.Granted.{turns_granted}
+use Rattle.mea_once.proofs.Validity.{same_callers}
 use Rattle.mea_once.proofs.KeyResults.{same_seen, same_all, same_together}
 
 abbrev Good : Bool → KeptTable → Names KeyFuture → Names ℕ → Type 0
@@ -108,22 +111,63 @@ module _ (once : Bool) {old : Part Tables} (es : Names KeptTable) (fs : Names Ke
     values = λ k. get_values e.keyed.table e.keyed.table.pairs k;
     current = λ k n now. current k n now (its.keys k);
     absent = λ k none gone. absent k none gone (its.keys k);
+    valued = λ k v full. valued k v full (its.keys k);
+    rounds = λ n c is.
+        let r = seen-back (round_seen e.keyed.table) e.rounds n c is in
+        let it = its.rounds n r.0 r.1 in (
+          r.0.entry,
+          it.shown,
+          it.there,
+          subst (λ (c : Cell). IsRoundOf old.hall o n c it.shown) (sym (ap (λ q. round_in q r.0) it.there) ∙ r.2) (round_of n r.0 it.shown r.1 it.there),
+        );
   }
     where
       its : AreTogether once e (own of_table o fs)
       its = kept.hall.each o e there
 
-      current : (k n : ℕ) → get e.current k ≡ Some n → IsKey once e k → (c : Cell) × (m : ℕ) × (s : Shown ℕ NamedWaker) × (get (table_seen e).rounds n ≡ Some c) × (number e.keyed k ≡ Some m) × (entry_at e.keyed.table m ≡ Some s) × IsRoundOf c s
+      -- the callers of a round are those that are kept
+      callers_are : (n : ℕ) → callers_at old.hall o n ≡ seen parts.future_seen (callers_of n (own of_table o fs))
+      callers_are n = ap (λ (p : Part Tables). callers_at p.hall o n) (sym view) ∙ ap (callers_in n) (own-seen of_table (λ (x : ModelFuture). x.table) key_future_seen (λ x. refl) o fs)
+          ∙ same_callers once e (own of_table o fs) its n
+
+      -- an entry that is found at a round is that of the round
+      round_of : (n : ℕ) (r : Round) (s : Shown ℕ NamedWaker) → get e.rounds n ≡ Some r → entry_at e.keyed.table r.entry ≡ Some s → IsRoundOf old.hall o n (parts.cell_seen (kept_cell s.cell r)) s
+      round_of n r s is entry = subst (λ (s : Shown ℕ NamedWaker). IsRoundOf old.hall o n (parts.cell_seen (kept_cell s.cell r)) s) (inside (sym it.there ∙ entry)) (record {
+        value = refl;
+        taken = refl;
+        queue = refl;
+        callers = it.callers ∙ it.kept.tied.futures ∙ sym (len-seen parts.future_seen (callers_of n (own of_table o fs))) ∙ ap (λ m. len m) (sym (callers_are n));
+        granted = ap (turns_in (parts.cell_seen (kept_cell it.shown.cell r))) (callers_are n) ∙ turns_granted false (kept_cell it.shown.cell r) (callers_of n (own of_table o fs)) it.kept;
+      })
+        where
+          it : IsRound e (own of_table o fs) n r
+          it = its.rounds n r is
+
+      current : (k n : ℕ) → get e.current k ≡ Some n → IsKey once e k → (c : Cell) × (m : ℕ) × (s : Shown ℕ NamedWaker)
+          × (get (table_seen e).rounds n ≡ Some c) × (number e.keyed k ≡ Some m) × (entry_at e.keyed.table m ≡ Some s) × (c.value ≡ None) × IsRoundOf old.hall o n c s
       current k n now (Absent none gone) = absurd (cc)
       current k n now (Computing q r z num is there_is key entry empty_is listed) =
-          let name : q ≡ n = inside (sym is ∙ now) in
-          (parts.cell_seen (kept_cell z.cell r), r.entry, z, ap (get (table_seen e).rounds) (sym name) ∙ seen_round e q r z there_is entry, num, entry, record { none = empty_is; empty = empty_is; taken = refl; queue = refl })
+          let own_round : get e.rounds n ≡ Some r = ap (get e.rounds) (sym (inside {x = q} {y = n} (sym is ∙ now))) ∙ there_is in
+          (parts.cell_seen (kept_cell z.cell r), r.entry, z, seen_round e n r z own_round entry, num, entry, empty_is, round_of n r z own_round entry)
       current k n now (Valued m v z num gone entry full listed map_only round) = absurd (cc)
 
       absent : (k : ℕ) → get (table_seen e).values k ≡ None → get e.current k ≡ None → IsKey once e k → number e.keyed k ≡ None
       absent k none gone (Absent num _) = num
       absent k none gone (Computing q r z num is there_is key entry empty_is listed) = absurd (cc)
       absent k none gone (Valued m v z num _ entry full listed map_only round) = absurd (let some : get (table_seen e).values k ≡ Some v = get_values e.keyed.table e.keyed.table.pairs k ∙ ap (value_at e.keyed.table) num ∙ ap value_of entry ∙ full in cc)
+
+      -- an entry that has a caller is that of a round
+      called : (k m : ℕ) (z : Shown ℕ NamedWaker) → entry_at e.keyed.table m ≡ Some z → HasRound e k m z → (z.callers ≡ 0) ⊎ ((n : ℕ) × (c : Cell) × (get (table_seen e).rounds n ≡ Some c) × IsRoundOf old.hall o n c z)
+      called k m z entry (inl nobody) = inl nobody.0
+      called k m z entry (inr has) =
+          let here : entry_at e.keyed.table has.1.entry ≡ Some z = ap (entry_at e.keyed.table) has.3 ∙ entry in
+          inr (has.0, parts.cell_seen (kept_cell z.cell has.1), seen_round e has.0 has.1 z has.2 here, round_of has.0 has.1 z has.2 here)
+
+      valued : (k v : ℕ) → get (table_seen e).values k ≡ Some v → IsKey once e k → (m : ℕ) × (s : Shown ℕ NamedWaker) × (number e.keyed k ≡ Some m) × (entry_at e.keyed.table m ≡ Some s)
+          × ((s.callers ≡ 0) ⊎ ((n : ℕ) × (c : Cell) × (get (table_seen e).rounds n ≡ Some c) × IsRoundOf old.hall o n c s))
+      valued k v some (Absent num gone) = absurd (let none : get (table_seen e).values k ≡ None = get_values e.keyed.table e.keyed.table.pairs k ∙ ap (value_at e.keyed.table) num in cc)
+      valued k v some (Computing q r z num is there_is key entry empty_is listed) = absurd (let none : get (table_seen e).values k ≡ None = get_values e.keyed.table e.keyed.table.pairs k ∙ ap (value_at e.keyed.table) num ∙ ap value_of entry ∙ empty_is in cc)
+      valued k v some (Valued m u z num gone entry full listed map_only round) = (m, z, num, entry, called k m z entry round)
 
 -- ---- a table before event number i
 pub record Site (once : Bool) (old : Part Tables) (i : ℕ) : Type 0 where

@@ -2,7 +2,8 @@
 use Rattle.std.proofs.Common.{◌≡◌, ℕ, ◌+◌, ◌<◌, ◌≤◌, ◌==◌, ◌&&◌, ◌⊎◌, inl, inr, Bool, true, false, not, cond, [], ◌∷◌, Option, Some, None, IsSome, is_some, refl, ap, sym, subst, ◌∙◌, arith}
 use Rattle.std.specs.FinMap.{get, remove, len}
 use Rattle.std.proofs.lemmas.Bool.{eqb-true, eqb-false, eq-eqb}
-use Rattle.mea_base.proofs.Maps.{inside, value_in, is_there, get-removed_other}
+use Rattle.mea_base.proofs.Maps.{inside, value_in, none_if, not_both, is_there, get-removed_other}
+use Rattle.mea_base.proofs.NamedMaps.{same_named}
 use Rattle.mea_by_name.specs.declared.named_waker.NamedWaker.{NamedWaker}
 use Rattle.mea_by_name.specs.ByName.{Names, seen, own}
 use Rattle.mea_by_name.specs.NamedQueue.{waits, waker_for}
@@ -206,6 +207,17 @@ module _ (once : Bool) (e : KeptTable) (fs : Names KeyFuture) (kept : AreTogethe
         let y = seen-back caller (seen key_future_seen (own of_round (n + 1) fs)) f z (sym (ap (λ m. get m f) callers_are) ∙ is) in
         let x = seen-back key_future_seen (own of_round (n + 1) fs) f y.0 y.1 in
         seen-at future_seen _ f _ (seen-at as_caller _ f x.0 x.1) ∙ ap (λ v. Some v) (same_caller f x.0 x.1 ∙ ap caller x.2 ∙ y.2)
+
+    -- they are the same, as they are seen there and elsewhere
+    same_at : (f : ℕ) → get (callers_in n (seen key_future_seen fs)) f ≡ get (seen future_seen (callers_of n fs)) f
+    same_at f = at (get (callers_in n (seen key_future_seen fs)) f) refl
+      where
+        at : (o : Option CellFuture) → get (callers_in n (seen key_future_seen fs)) f ≡ o → get (callers_in n (seen key_future_seen fs)) f ≡ get (seen future_seen (callers_of n fs)) f
+        at None none = none ∙ sym (none_if (get (seen future_seen (callers_of n fs)) f) (λ z is. not_both (get (callers_in n (seen key_future_seen fs)) f) z none (to f z is)))
+        at (Some z) some = some ∙ sym (back f z some)
+
+    pub same_callers : callers_in n (seen key_future_seen fs) ≡ seen future_seen (callers_of n fs)
+    same_callers = same_named _ _ same_at
 
     round_valid : (r : Round) → get e.rounds n ≡ Some r → IsCell (round_seen e.keyed.table r) (callers_in n (seen key_future_seen fs))
     round_valid r there =

@@ -5,7 +5,7 @@ use Rattle.std.proofs.lemmas.Bool.{eqb-true, eq-eqb}
 use Rattle.std.proofs.lemmas.List.{length-append}
 use Rattle.std.proofs.lemmas.List.Elements.{Contains-append_cases, Contains-append_left, Contains-append_right}
 use Rattle.mea_by_name.specs.NamedQueue.{Waiting, waker_for, waits, with_waker, without, wakers, registering}
-use Rattle.mea_by_name.proofs.NamedQueues.{Local, appended-other, with_waker-other, without-other, length-with_waker, length-without, local_drained, registering-other, length-registering}
+use Rattle.mea_by_name.proofs.NamedQueues.{Local, local_same, local_appended, local_with, local_without, local_registering, local_popped, local_drained, appended-other, with_waker-other, without-other, registering-other, length-without}
 use Rattle.mea_once_model.specs.Cells.{woken_next}
 
 -- ---- who waits in one list or in another
@@ -33,49 +33,26 @@ not_waiting q f = at (waker_for q f)
     at None none = refl
     at (Some w) none = absurd (cc)
 
--- ---- a change of one list: all who wait there, but k, keep their wakers or are woken, none but k comes, and at most so
--- many wait more
+-- ---- a change of one list: what a change of a queue is, and none but k comes
 pub record Part (q q' : Waiting) (ws : List ℕ) (k extra : ℕ) : Type 0 where
-  pub keeps : (f w : ℕ) → (k ≡ f → ⊥) → waker_for q f ≡ Some w → (waker_for q' f ≡ Some w) ⊎ Contains ws w
+  pub local : Local q q' ws k extra
   pub none : (f : ℕ) → (k ≡ f → ⊥) → waker_for q f ≡ None → waker_for q' f ≡ None
-  pub fits : length q' + length ws ≤ length q + extra
-  pub most : length ws ≤ length q
 
 pub part_same : (q : Waiting) (k : ℕ) → Part q q [] k 0
-part_same q k = record { keeps = λ f w apart is. inl is; none = λ f apart is. is; fits = omega arith; most = omega arith }
+part_same q k = record { local = local_same q k; none = λ f apart is. is }
 
 pub part_pushed : (q : Waiting) (f w : ℕ) → Part q (q ++ (f, w) ∷ []) [] f 1
-part_pushed q f w = record {
-  keeps = λ g v apart is. inl (appended-other q f w g apart ∙ is);
-  none = λ g apart is. appended-other q f w g apart ∙ is;
-  fits = omega (arith, length-append q ((f, w) ∷ []));
-  most = omega arith;
-}
+part_pushed q f w = record { local = local_appended q f w; none = λ g apart is. appended-other q f w g apart ∙ is }
 
 pub part_with : (q : Waiting) (f w : ℕ) → Part q (with_waker q f w) [] f 0
-part_with q f w = record {
-  keeps = λ g v apart is. inl (with_waker-other q f w g apart ∙ is);
-  none = λ g apart is. with_waker-other q f w g apart ∙ is;
-  fits = omega (arith, length-with_waker q f w);
-  most = omega arith;
-}
+part_with q f w = record { local = local_with q f w; none = λ g apart is. with_waker-other q f w g apart ∙ is }
 
 pub part_without : (q : Waiting) (f : ℕ) → Part q (without q f) [] f 0
-part_without q f = record {
-  keeps = λ g v apart is. inl (without-other q f g apart ∙ is);
-  none = λ g apart is. without-other q f g apart ∙ is;
-  fits = omega (arith, length-without q f);
-  most = omega arith;
-}
+part_without q f = record { local = local_without q f; none = λ g apart is. without-other q f g apart ∙ is }
 
 -- ---- one registers
 pub part_registering : (q : Waiting) (f w : ℕ) → Part q (registering q f w) [] f 1
-part_registering q f w = record {
-  keeps = λ g v apart is. inl (registering-other q f w g apart ∙ is);
-  none = λ g apart is. registering-other q f w g apart ∙ is;
-  fits = omega (arith, length-registering q f w);
-  most = omega arith;
-}
+part_registering q f w = record { local = local_registering q f w; none = λ g apart is. registering-other q f w g apart ∙ is }
 
 -- ---- one is woken, the first is, and all are
 one-of : (w : ℕ) (ws : List ℕ) → Contains (w ∷ ws) w
@@ -107,10 +84,8 @@ settled-fits (e ∷ q) f = elim (e.0 == f) as (λ b. length (cond b (without q f
 
 pub part_settled : (q : Waiting) (f k : ℕ) → Part q (without q f) (option_to_list (waker_for q f)) k 0
 part_settled q f k = record {
-  keeps = λ g w apart is. settled-keeps q f g w is;
+  local = record { keeps = λ g w apart is. settled-keeps q f g w is; fits = omega (arith, settled-fits q f); most = omega (arith, settled-fits q f) };
   none = λ g apart is. settled-none q f g is;
-  fits = omega (arith, settled-fits q f);
-  most = omega (arith, settled-fits q f);
 }
 
 -- the first goes, if there is one
@@ -121,55 +96,49 @@ behind (e ∷ q) = q
 pub part_next : (q : Waiting) (k : ℕ) → Part q (behind q) (woken_next q) k 0
 part_next [] k = part_same [] k
 part_next (e ∷ q) k = record {
-  keeps = λ f w apart. elim (e.0 == f) as (λ b. cond b (Some e.1) (waker_for q f) ≡ Some w → (waker_for q f ≡ Some w) ⊎ Contains (e.1 ∷ []) w) [
-    | true ↦ λ is. let same : e.1 ≡ w = cc in inr (subst (Contains (e.1 ∷ [])) same (one-of e.1 []))
-    | false ↦ λ is. inl is
-  ];
+  local = local_popped e q k;
   none = λ f apart. elim (e.0 == f) as (λ b. cond b (Some e.1) (waker_for q f) ≡ None → waker_for q f ≡ None) [
     | true ↦ λ is. absurd (cc)
     | false ↦ λ is. is
   ];
-  fits = omega arith;
-  most = omega arith;
 }
 
 pub part_drained : (q : Waiting) (k : ℕ) → Part q [] (wakers q) k 0
-part_drained q k = let drained = local_drained q k in record { keeps = drained.keeps; none = λ f apart is. refl; fits = drained.fits; most = drained.most }
+part_drained q k = record { local = local_drained q k; none = λ f apart is. refl }
 
 -- ---- changes of two lists together, whose wakes are all among these
 pub both : (a a' b b' : Waiting) (ws vs us : List ℕ) (k m n : ℕ) → Part a a' ws k m → Part b b' vs k n → ((w : ℕ) → Contains ws w → Contains us w) → ((w : ℕ) → Contains vs w → Contains us w)
     → length us ≡ length ws + length vs → Part (a ++ b) (a' ++ b') us k (m + n)
 both a a' b b' ws vs us k m n first second left right long = record {
-  keeps = λ f w apart is. keeps f w apart (waker_for a f) refl is;
+  local = record {
+    keeps = λ f w apart is. keeps f w apart (waker_for a f) refl is;
+    fits = omega (arith, long, first.local.fits, second.local.fits, length-append a b, length-append a' b');
+    most = omega (arith, long, first.local.most, second.local.most, length-append a b);
+  };
   none = λ f apart is. nobody f apart (waker_for a f) refl is;
-  fits = omega (arith, long, first.fits, second.fits, length-append a b, length-append a' b');
-  most = omega (arith, long, first.most, second.most, length-append a b);
 }
   where
     keeps : (f w : ℕ) → (k ≡ f → ⊥) → (o : Option ℕ) → waker_for a f ≡ o → waker_for (a ++ b) f ≡ Some w → (waker_for (a' ++ b') f ≡ Some w) ⊎ Contains us w
     keeps f w apart (Some v) here is =
         let same : Some v ≡ Some w = sym (in_first a b f v here) ∙ is in
-        elim (first.keeps f w apart (here ∙ same)) [ inl kept ↦ inl (in_first a' b' f w kept) | inr woken ↦ inr (left w woken) ]
+        elim (first.local.keeps f w apart (here ∙ same)) [ inl kept ↦ inl (in_first a' b' f w kept) | inr woken ↦ inr (left w woken) ]
     keeps f w apart None absent is =
-        elim (second.keeps f w apart (sym (in_second a b f absent) ∙ is)) [ inl kept ↦ inl (in_second a' b' f (first.none f apart absent) ∙ kept) | inr woken ↦ inr (right w woken) ]
+        elim (second.local.keeps f w apart (sym (in_second a b f absent) ∙ is)) [ inl kept ↦ inl (in_second a' b' f (first.none f apart absent) ∙ kept) | inr woken ↦ inr (right w woken) ]
 
     nobody : (f : ℕ) → (k ≡ f → ⊥) → (o : Option ℕ) → waker_for a f ≡ o → waker_for (a ++ b) f ≡ None → waker_for (a' ++ b') f ≡ None
     nobody f apart (Some v) here is = absurd (let there = in_first a b f v here in cc)
     nobody f apart None absent is = in_second a' b' f (first.none f apart absent) ∙ second.none f apart (sym (in_second a b f absent) ∙ is)
-
-pub local_of : (q q' : Waiting) (ws : List ℕ) (k extra : ℕ) → Part q q' ws k extra → Local q q' ws k extra
-local_of q q' ws k extra part = record { keeps = part.keeps; fits = part.fits; most = part.most }
 
 -- the lists of a cell: who waits for the turn, whose initialiser runs, and who waits until it is full. The wakes of the last
 -- come first
 pub together : (q q' r r' s s' : Waiting) (ws vs us : List ℕ) (k l m n : ℕ) → Part q q' ws k l → Part r r' vs k m → Part s s' us k n
     → Local (q ++ (r ++ s)) (q' ++ (r' ++ s')) (us ++ (vs ++ ws)) k (l + (m + n))
 together q q' r r' s s' ws vs us k l m n first second third =
-    local_of _ _ _ _ _ (both q q' (r ++ s) (r' ++ s') ws (vs ++ us) (us ++ (vs ++ ws)) k l (m + n) first
+    (both q q' (r ++ s) (r' ++ s') ws (vs ++ us) (us ++ (vs ++ ws)) k l (m + n) first
     (both r r' s s' vs us (vs ++ us) k m n second third (λ w has. Contains-append_left vs us w has) (λ w has. Contains-append_right vs us w has) (length-append vs us))
     (λ w has. Contains-append_right us (vs ++ ws) w (Contains-append_right vs ws w has))
     (λ w has. others w has)
-    (omega (arith, length-append us (vs ++ ws), length-append vs ws, length-append vs us)))
+    (omega (arith, length-append us (vs ++ ws), length-append vs ws, length-append vs us))).local
   where
     others : (w : ℕ) → Contains (vs ++ us) w → Contains (us ++ (vs ++ ws)) w
     others w has = elim (Contains-append_cases vs us w has) [

@@ -24,7 +24,7 @@ pub overflow_sub-at_mut : goal.overflow_sub-at_mut
 overflow_sub-at_mut c = some_send (site c.self.inside.channels c.self.inside.senders c.self.inside.receivers c.self.inside.sends c.self.inside.next c.self.view_is c.self.invariant c.requires.next c.ranges.number.fits) c.args.f c.in-Some.send c.at_mut-2.result.now c.at_mut.result.now (sym c.take.ensures.value ∙ c.in-Some.is) (rw c.sender-s.ensures at c.at_mut-2.ensures.value) (rw c.channel.ensures at c.at_mut.ensures.value) c.end_send.ensures.channel
 
 pub invariant_of-self-2 : goal.invariant_of-self-2
-invariant_of-self-2 c = (rw (c.take.ensures.rest, c.channel.ensures, c.sender-s.ensures) (send_ended (site c.self.inside.channels c.self.inside.senders c.self.inside.receivers c.self.inside.sends c.self.inside.next c.self.view_is c.self.invariant c.requires.next c.ranges.number.fits) c.args.f c.in-Some.send c.at_mut-2.result.now c.at_mut.result.now (sym c.take.ensures.value ∙ c.in-Some.is) (rw c.sender-s.ensures at c.at_mut-2.ensures.value) (rw c.channel.ensures at c.at_mut.ensures.value) c.end_send.ensures.channel c.end_send.new.core c.args.ready.now c.end_send.new.ready c.end_send.ensures.ends.0 c.end_send.ensures.ends.1 c.end_send.ensures.ends.2).0)
+invariant_of-self-2 c = (rw (c.take.ensures.rest, c.channel.ensures, c.sender-s.ensures) (send_ended (site c.self.inside.channels c.self.inside.senders c.self.inside.receivers c.self.inside.sends c.self.inside.next c.self.view_is c.self.invariant c.requires.next c.ranges.number.fits) c.args.f c.in-Some.send c.at_mut-2.result.now c.at_mut.result.now (sym c.take.ensures.value ∙ c.in-Some.is) (rw c.sender-s.ensures at c.at_mut-2.ensures.value) (rw c.channel.ensures at c.at_mut.ensures.value) c.end_send.ensures.channel c.end_send.new.self c.args.ready.now c.end_send.new.ready c.end_send.ensures.ends.0 c.end_send.ensures.ends.1 c.end_send.ensures.ends.2).0)
 
 pub returns : goal.returns
-returns c = ((ap unknown_unless (sym (send_is c.self.inside.channels c.self.inside.senders c.self.inside.receivers c.self.inside.sends c.self.inside.next c.self.view_is c.args.f (Some c.in-Some.send) (sym c.take.ensures.value ∙ c.in-Some.is)))), (rw (c.take.ensures.rest, c.channel.ensures, c.sender-s.ensures) (send_ended (site c.self.inside.channels c.self.inside.senders c.self.inside.receivers c.self.inside.sends c.self.inside.next c.self.view_is c.self.invariant c.requires.next c.ranges.number.fits) c.args.f c.in-Some.send c.at_mut-2.result.now c.at_mut.result.now (sym c.take.ensures.value ∙ c.in-Some.is) (rw c.sender-s.ensures at c.at_mut-2.ensures.value) (rw c.channel.ensures at c.at_mut.ensures.value) c.end_send.ensures.channel c.end_send.new.core c.args.ready.now c.end_send.new.ready c.end_send.ensures.ends.0 c.end_send.ensures.ends.1 c.end_send.ensures.ends.2).1))
+returns c = ((ap unknown_unless (sym (send_is c.self.inside.channels c.self.inside.senders c.self.inside.receivers c.self.inside.sends c.self.inside.next c.self.view_is c.args.f (Some c.in-Some.send) (sym c.take.ensures.value ∙ c.in-Some.is)))), (rw (c.take.ensures.rest, c.channel.ensures, c.sender-s.ensures) (send_ended (site c.self.inside.channels c.self.inside.senders c.self.inside.receivers c.self.inside.sends c.self.inside.next c.self.view_is c.self.invariant c.requires.next c.ranges.number.fits) c.args.f c.in-Some.send c.at_mut-2.result.now c.at_mut.result.now (sym c.take.ensures.value ∙ c.in-Some.is) (rw c.sender-s.ensures at c.at_mut-2.ensures.value) (rw c.channel.ensures at c.at_mut.ensures.value) c.end_send.ensures.channel c.end_send.new.self c.args.ready.now c.end_send.new.ready c.end_send.ensures.ends.0 c.end_send.ensures.ends.1 c.end_send.ensures.ends.2).1))

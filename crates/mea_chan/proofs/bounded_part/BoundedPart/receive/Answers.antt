@@ -18,7 +18,7 @@ pub receive-received-requires-clause-room : goal.receive-received-requires-claus
 receive-received-requires-clause-room c = its_room (site c.self.inside.channels c.self.inside.senders c.self.inside.receivers c.self.inside.sends c.self.inside.next c.self.view_is c.self.invariant c.requires.next c.ranges.number.fits) c.in-Some.receiver.channel c.at_mut.result.now c.at_mut.ensures.value c.args.ready.now c.requires.room
 
 pub invariant_of-self : goal.invariant_of-self
-invariant_of-self c = (received (site c.self.inside.channels c.self.inside.senders c.self.inside.receivers c.self.inside.sends c.self.inside.next c.self.view_is c.self.invariant c.requires.next c.ranges.number.fits) c.args.r c.in-Some.receiver c.at_mut.result.now c.in-Some.ensures.some c.at_mut.ensures.value c.receive-received.new.core _ c.args.ready.now c.receive-received.new.ready c.receive-received.ensures.channel (c.told.ensures ∙ ap told c.receive-received.ensures.answer) c.receive-received.ensures.settles).0
+invariant_of-self c = (received (site c.self.inside.channels c.self.inside.senders c.self.inside.receivers c.self.inside.sends c.self.inside.next c.self.view_is c.self.invariant c.requires.next c.ranges.number.fits) c.args.r c.in-Some.receiver c.at_mut.result.now c.in-Some.ensures.some c.at_mut.ensures.value c.receive-received.new.self _ c.args.ready.now c.receive-received.new.ready c.receive-received.ensures.channel (c.told.ensures ∙ ap told c.receive-received.ensures.answer) c.receive-received.ensures.settles).0
 
 pub returns : goal.returns
-returns c = ((ap unknown_unless (sym (receiver_is c.self.inside.channels c.self.inside.senders c.self.inside.receivers c.self.inside.sends c.self.inside.next c.self.view_is c.args.r (get c.self.inside.receivers c.args.r) refl) ∙ sym c.receiver_in.ensures.there ∙ ap is_some c.in-Some.is)), (received (site c.self.inside.channels c.self.inside.senders c.self.inside.receivers c.self.inside.sends c.self.inside.next c.self.view_is c.self.invariant c.requires.next c.ranges.number.fits) c.args.r c.in-Some.receiver c.at_mut.result.now c.in-Some.ensures.some c.at_mut.ensures.value c.receive-received.new.core _ c.args.ready.now c.receive-received.new.ready c.receive-received.ensures.channel (c.told.ensures ∙ ap told c.receive-received.ensures.answer) c.receive-received.ensures.settles).1)
+returns c = ((ap unknown_unless (sym (receiver_is c.self.inside.channels c.self.inside.senders c.self.inside.receivers c.self.inside.sends c.self.inside.next c.self.view_is c.args.r (get c.self.inside.receivers c.args.r) refl) ∙ sym c.receiver_in.ensures.there ∙ ap is_some c.in-Some.is)), (received (site c.self.inside.channels c.self.inside.senders c.self.inside.receivers c.self.inside.sends c.self.inside.next c.self.view_is c.self.invariant c.requires.next c.ranges.number.fits) c.args.r c.in-Some.receiver c.at_mut.result.now c.in-Some.ensures.some c.at_mut.ensures.value c.receive-received.new.self _ c.args.ready.now c.receive-received.new.ready c.receive-received.ensures.channel (c.told.ensures ∙ ap told c.receive-received.ensures.answer) c.receive-received.ensures.settles).1)

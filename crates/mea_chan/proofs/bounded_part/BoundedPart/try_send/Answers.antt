@@ -18,7 +18,7 @@ pub try_send-sent-requires-clause-room : goal.try_send-sent-requires-clause-room
 try_send-sent-requires-clause-room c = its_room (site c.self.inside.channels c.self.inside.senders c.self.inside.receivers c.self.inside.sends c.self.inside.next c.self.view_is c.self.invariant c.requires.next c.ranges.number.fits) c.in-Some.sender.now.channel c.at_mut.result.now c.at_mut.ensures.value c.args.ready.now c.requires.room
 
 pub invariant_of-self : goal.invariant_of-self
-invariant_of-self c = (tried (site c.self.inside.channels c.self.inside.senders c.self.inside.receivers c.self.inside.sends c.self.inside.next c.self.view_is c.self.invariant c.requires.next c.ranges.number.fits) c.args.s c.in-Some.sender.now c.at_mut.result.now (sym c.get.ensures ∙ ap option_copied c.in-Some.is) c.at_mut.ensures.value c.args.message c.try_send-sent.new.core _ c.args.ready.now c.try_send-sent.new.ready (c.tried_told.ensures ∙ ap tried_told c.try_send-sent.ensures.answer) c.try_send-sent.ensures.settles).0
+invariant_of-self c = (tried (site c.self.inside.channels c.self.inside.senders c.self.inside.receivers c.self.inside.sends c.self.inside.next c.self.view_is c.self.invariant c.requires.next c.ranges.number.fits) c.args.s c.in-Some.sender.now c.at_mut.result.now (sym c.get.ensures ∙ ap option_copied c.in-Some.is) c.at_mut.ensures.value c.args.message c.try_send-sent.new.self _ c.args.ready.now c.try_send-sent.new.ready (c.tried_told.ensures ∙ ap tried_told c.try_send-sent.ensures.answer) c.try_send-sent.ensures.settles).0
 
 pub returns : goal.returns
-returns c = ((ap unknown_unless (sym (sender_is c.self.inside.channels c.self.inside.senders c.self.inside.receivers c.self.inside.sends c.self.inside.next c.self.view_is c.args.s (Some c.in-Some.sender.now) (sym c.get.ensures ∙ ap option_copied c.in-Some.is)))), (tried (site c.self.inside.channels c.self.inside.senders c.self.inside.receivers c.self.inside.sends c.self.inside.next c.self.view_is c.self.invariant c.requires.next c.ranges.number.fits) c.args.s c.in-Some.sender.now c.at_mut.result.now (sym c.get.ensures ∙ ap option_copied c.in-Some.is) c.at_mut.ensures.value c.args.message c.try_send-sent.new.core _ c.args.ready.now c.try_send-sent.new.ready (c.tried_told.ensures ∙ ap tried_told c.try_send-sent.ensures.answer) c.try_send-sent.ensures.settles).1)
+returns c = ((ap unknown_unless (sym (sender_is c.self.inside.channels c.self.inside.senders c.self.inside.receivers c.self.inside.sends c.self.inside.next c.self.view_is c.args.s (Some c.in-Some.sender.now) (sym c.get.ensures ∙ ap option_copied c.in-Some.is)))), (tried (site c.self.inside.channels c.self.inside.senders c.self.inside.receivers c.self.inside.sends c.self.inside.next c.self.view_is c.self.invariant c.requires.next c.ranges.number.fits) c.args.s c.in-Some.sender.now c.at_mut.result.now (sym c.get.ensures ∙ ap option_copied c.in-Some.is) c.at_mut.ensures.value c.args.message c.try_send-sent.new.self _ c.args.ready.now c.try_send-sent.new.ready (c.tried_told.ensures ∙ ap tried_told c.try_send-sent.ensures.answer) c.try_send-sent.ensures.settles).1)
