@@ -71,6 +71,7 @@ impl Families {
     }
 
     /// Plays an event on its family, which is lent the list of ready wakers. Where it is refused, nothing has changed.
+    #[inline(always)]
     #[tactic(auto, unfolding(crate::specs::World::cause_of, crate::specs::World::TakesNoMemory))]
     pub fn act(
         &mut self,

@@ -82,6 +82,7 @@ impl Hall {
 
     /// Plays the next event, and makes the wakers ready that it wakes. A cause for refusal comes before want
     /// of memory.
+    #[inline(always)]
     pub fn act(&mut self, event: &Event) -> Result<Answer, Stop>
         requires { self.old.events < 2 ^ 64 - 1 }
         ensures played { IfOk result (λ answer. Plays self.old event.now answer self.new) }

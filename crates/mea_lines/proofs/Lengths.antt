@@ -1,5 +1,5 @@
 -- no event is spelled in a long line
-use Rattle.std.proofs.Common.{◌≡◌, ◌≢◌, ℕ, ◌*◌, ◌^◌, ◌<◌, ◌≤◌, List, [], ◌∷◌, Option, Some, None, length, codes, ap, arith, length-append}
+use Rattle.std.proofs.Common.{◌≡◌, ℕ, ◌*◌, ◌^◌, ◌<◌, ◌≤◌, List, [], ◌∷◌, None, length, codes, ap, arith, length-append}
 use Rattle.std.proofs.lemmas.Fmt.{length-decimal-le}
 use Rattle.std.specs.Fmt.{decimal}
 use Rattle.mea_events.specs.declared.sem_event.SemEvent.{SemEvent}
@@ -29,6 +29,7 @@ use Rattle.mea_lines.specs.OnceSpelling.{once_said}
 use Rattle.mea_lines.specs.Spelling.{said, spelling, Fits}
 use Rattle.mea_text.specs.Text.{number_text, numbers_text}
 use Rattle.mea_text.specs.Words.{listed}
+use Rattle.mea_lines.proofs.Marks.{none_where_no_event}
 use Rattle.mea_lines.proofs.Spellings.{numbers_fit, spelling_only}
 
 length-number_text : (n : ℕ) → n < 2 ^ 64 → length (number_text n) ≤ 21
@@ -88,10 +89,6 @@ length-spelling event fits =
       word_short event,
       numbers_few (said event).1,
     )
-
-none_where_no_event : (o : Option Event) → ((e : Event) → o ≢ Some e) → o ≡ None
-none_where_no_event None h = λ _. None
-none_where_no_event (Some e) h = absurd (h e (λ _. Some e))
 
 pub long_is_no_event : (line : List ℕ) → 96 < length line → event_of line ≡ None
 long_is_no_event line long = none_where_no_event (event_of line) (λ e is.

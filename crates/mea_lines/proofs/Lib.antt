@@ -1,4 +1,5 @@
 pub mod ChanSpellings
+pub mod Dots
 pub mod Lengths
 pub mod LockSpellings
 pub mod Marks

@@ -1,5 +1,5 @@
 -- what is found by the mark of a word
-use Rattle.std.proofs.Common.{◌≡◌, ℕ, ◌++◌, List, [], ◌∷◌, Option, Some, sym, subst, option_and_then}
+use Rattle.std.proofs.Common.{◌≡◌, ◌≢◌, ℕ, ◌++◌, List, [], ◌∷◌, Option, Some, None, sym, subst, option_and_then}
 use Rattle.std.specs.Str.{bytes_eq}
 use Rattle.std.proofs.lemmas.Option.{option_and_then_some}
 use Rattle.mea_events.specs.declared.event.Event.{Event}
@@ -20,6 +20,10 @@ use Rattle.mea_lines.proofs.LockSpellings.{mutex_lines_are_said, rw_lock_lines_a
 use Rattle.mea_lines.proofs.ChanSpellings.{bounded_lines_are_said, unbounded_lines_are_said, oneshot_lines_are_said, broadcast_lines_are_said, box_lines_are_said, option_box_lines_are_said}
 use Rattle.mea_lines.proofs.ShareSpellings.{admission_lines_are_said}
 use Rattle.mea_lines.proofs.OnceSpellings.{call_lines_are_said, cell_lines_are_said, map_lines_are_said, work_lines_are_said}
+
+pub none_where_no_event : (o : Option Event) → ((e : Event) → o ≢ Some e) → o ≡ None
+none_where_no_event None h = λ _. None
+none_where_no_event (Some e) h = absurd (h e (λ _. Some e))
 
 -- an event of all families that one of them found
 pub unwrapped : {E : Type 0} (own_said : E → List ℕ × Numbers) (OwnFits : E → Type 0) (wrap : E → Event) (o : Option E) (word : List ℕ) (numbers : Numbers)

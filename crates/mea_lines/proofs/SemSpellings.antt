@@ -1,5 +1,5 @@
 -- the lines of semaphores are what their events say
-use Rattle.std.proofs.Common.{◌≡◌, ℕ, true, List, Some, refl, rules}
+use Rattle.std.proofs.Common.{◌≡◌, ℕ, true, List, Some, refl, subst, rules}
 use Rattle.mea_events.specs.declared.sem_event.SemEvent.{SemEvent}
 use Rattle.mea_events.specs.declared.sem_event.SemEvent.TheVariants as Sems
 use Rattle.mea_events.specs.declared.event.Event.TheVariants.{Sem}
@@ -27,3 +27,12 @@ semaphore_lines_are_said = search rules
 pub semaphore_found : (word : List ℕ) (numbers : Numbers) (e : SemEvent) → of_table semaphore_lines word numbers ≡ Some e
     → IsFound semaphore_said SemaphoreFits word numbers e
 semaphore_found word numbers e = table_only semaphore_said SemaphoreFits (λ w. w) semaphore_lines word numbers e semaphore_lines_are_said
+
+spelled_dotless : (e : SemEvent) → lacks_byte 46 (semaphore_said e).0 ≡ true
+spelled_dotless (Sems.New n) = refl
+spelled_dotless _ = refl
+
+-- a word of semaphores has no dot
+pub semaphore_dotless : (word : List ℕ) (numbers : Numbers) (e : SemEvent) → of_table semaphore_lines word numbers ≡ Some e → lacks_byte 46 word ≡ true
+semaphore_dotless word numbers e is =
+    subst (λ (p : List ℕ × Numbers). lacks_byte 46 p.0 ≡ true) (semaphore_found word numbers e is).0 (spelled_dotless e)

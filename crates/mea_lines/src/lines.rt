@@ -1,7 +1,7 @@
-ghost use Rattle.std.specs.Prelude.{◌≡◌, ◌<◌, ◌↔◌, ℕ, List, None, Some, length};
+ghost use Rattle.std.specs.Prelude.{◌≡◌, ◌<◌, ◌↔◌, ℕ, List, None, Some, IfSome, length};
 ghost use Rattle.mea_events.specs.declared.event.Event.{Event as Line};
 ghost use Rattle.std.specs.Option.{option_map};
-ghost use Rattle.mea_lines.specs.Lines.{event_of, event_of_word, word_and_numbers};
+ghost use Rattle.mea_lines.specs.Lines.{dot_of, event_of, event_of_word, word_and_numbers};
 ghost use Rattle.mea_lines.specs.Marks.{marks, of_marks};
 ghost use Rattle.mea_lines.specs.Spelling.{spelling, Fits};
 
@@ -37,13 +37,28 @@ fn word_and_numbers(line: &[u8]) -> Option<(&[u8], Numbers)>
 }
 
 /// The event of a word and its numbers. The words of semaphores have no dot.
-#[tactic(auto, unfolding(crate::specs::Lines::event_of_word))]
+#[tactic(auto, using(crate::proofs::Dots::by_dot))]
 fn event_of_word(word: &[u8], numbers: Numbers) -> Option<Event>
     ensures { result ≡ event_of_word word.now numbers }
 {
-    match cut(word, b'.') {
+    match dot_of(word) {
         None => semaphore_event(word, numbers).map(Event::Sem),
-        Some((mark, verb)) => marked_event(mark, verb, numbers),
+        Some(at) => marked_event(&word[..at], &word[at + 1..], numbers),
+    }
+}
+
+/// Where the dot stands that ends a mark. A mark has two letters or three, so no other place is looked at.
+#[tactic(auto, unfolding(crate::specs::Lines::dot_of), using(crate::proofs::Dots::no_dot_past))]
+fn dot_of(word: &[u8]) -> Option<usize>
+    ensures place { result ≡ dot_of word.now }
+    ensures within { IfSome result (λ at. at < length word.now) }
+{
+    if word.len() > 2 && word[2] == b'.' {
+        Some(2)
+    } else if word.len() > 3 && word[3] == b'.' {
+        Some(3)
+    } else {
+        None
     }
 }
 

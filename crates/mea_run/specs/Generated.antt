@@ -51,6 +51,7 @@ abbrev pub rounds_from : ℕ → ℕ → ℕ → List Event
 rounds_from state j zero = []
 rounds_from state j (suc n) = round_of state j ++ rounds_from (drawn_by 4 state) (j + 1) n
 
+-- the state before the first draw
 abbrev pub first_state : ℕ → ℕ
 first_state seed = seed % 2147483648
 
@@ -60,6 +61,7 @@ script_of seed rounds = Sem (events.New 0) ∷ (rounds_from (first_state seed) 0
 
 -- ---- what a script gives
 
+-- whether an event of semaphores is a poll
 abbrev pub is_semaphore_poll : SemEvent → Bool
 is_semaphore_poll (events.Poll f w) = true
 is_semaphore_poll _ = false
@@ -98,6 +100,7 @@ last_text (r ∷ next ∷ rs) = last_text (next ∷ rs)
 abbrev pub summary : List Event → List (Answer × List ℕ) → List ℕ
 summary es rs = counted_line (codes "events") (length es) ++ counted_line (codes "pending") (pendings rs) ++ counted_line (codes "wakes") (wakes_in rs) ++ last_text rs
 
+-- the summary of the script of this seed and so many rounds
 abbrev pub summary_of : ℕ → ℕ → List ℕ
 summary_of seed rounds = summary (script_of seed rounds) (front_of (script_of seed rounds)).replies
 

@@ -20,42 +20,53 @@ pub record Reading : Type 0 where
   pub events : List Event
   pub bad : Bool
 
+-- a line that stands for this event, or for none, before lines that are read so
 abbrev pub reading_at : Option Event → Reading → Reading
 reading_at None next = record { events = []; bad = true }
 reading_at (Some event) next = record { events = event ∷ next.events; bad = next.bad }
 
+-- these lines as they are read
 abbrev pub reading_of : List (List ℕ) → Reading
 reading_of [] = record { events = []; bad = false }
 reading_of (line ∷ lines) = reading_at (event_of line) (reading_of lines)
 
 -- ---- the text and the status
 
+-- the texts of all replies
 abbrev pub replies_text : List (Answer × List ℕ) → List ℕ
 replies_text replies = flat_map {X = Answer × List ℕ} (λ r. reply_text r.0 r.1) replies
 
+-- the text where the events came to this front, by whether the line behind them is none and whether the script is too long
 abbrev pub text_after : Front → Bool → Bool → List ℕ
 text_after front bad long = replies_text front.replies ++ ending_at front.cause bad long (length front.replies)
 
+-- the status, by the same
 abbrev pub status_after : Front → Bool → Bool → Status
 status_after front bad long = status_at front.cause bad long (length front.replies)
 
+-- the text that a script is answered
 abbrev pub text_of : List ℕ → List ℕ
 text_of script = let reading = reading_of (lines_of script) in text_after (front_of reading.events) reading.bad (is_long script)
 
+-- the status that it ends with
 abbrev pub status_of : List ℕ → Status
 status_of script = let reading = reading_of (lines_of script) in status_after (front_of reading.events) reading.bad (is_long script)
 
 -- ---- the laws, for the script that is played: at every point, of its events and their replies
 
+-- the events of the script
 abbrev pub events_of : List ℕ → List Event
 events_of script = (reading_of (lines_of script)).events
 
+-- its accounts balance
 abbrev pub IsBalanced : List ℕ → Type 0
 IsBalanced script = AreBalanced (events_of script) (front_of (events_of script)).replies
 
+-- it loses no wake
 abbrev pub LosesNoWake : List ℕ → Type 0
 LosesNoWake script = LoseNoWake (events_of script) (front_of (events_of script)).replies
 
+-- its grants follow the first polls
 abbrev pub GrantsInOrder : List ℕ → Type 0
 GrantsInOrder script = GrantInOrder (events_of script) (front_of (events_of script)).replies
 

@@ -3,7 +3,7 @@
 #![tactic(auto)]
 
 mod generator;
-mod halls;
+mod machine;
 mod making;
 mod running;
 

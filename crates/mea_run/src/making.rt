@@ -146,6 +146,7 @@ fn play_all(hall: &mut Hall, counts: &mut Counts, events: &[Event]) -> Result<()
 }
 
 /// Plays an event, and counts what it gives.
+#[inline(always)]
 fn play(hall: &mut Hall, counts: &mut Counts, event: &Event) -> Result<Answer, Stop>
     requires quiet { hall.old.wakes ≡ [] }
     requires few { hall.old.events < 4194304 }

@@ -6,7 +6,7 @@ ghost use Rattle.mea_run.specs.Generated.{script_of, PollsWait};
 ghost use Rattle.mea_run.specs.Runs.{IsPlay, IsMake, IsCommand, IsFault, IsWriteFault, IsAnswered, IsTold, IsSummarized, IsMade, IsTakenTo, line_of};
 
 use crate::generator::generated_scripts_are_legal;
-use crate::halls::Halls;
+use crate::machine::PlayMachine;
 use crate::making::summary;
 use mea_family::Stop;
 use mea_hall::{grants_follow_first_polls, no_wake_is_lost, permits_balance};
@@ -110,8 +110,8 @@ fn play<S: Source, K: Sink>(alloc: Global, source: &mut S, sink: &mut K) -> Stat
         → (left : List ℕ) × (S.left source.new ≡ Some left) × IsTakenTo n script left }
 {
     long_lines_are_no_events();
-    let halls = Halls::new(alloc);
-    play_script(alloc, halls, source, sink)
+    let machine = PlayMachine::new(alloc);
+    play_script(alloc, machine, source, sink)
 }
 
 /// Plays a generated script, and writes its summary to the sink.

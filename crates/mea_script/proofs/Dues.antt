@@ -1,5 +1,5 @@
 -- what a player is due, by the lines that are left
-use Rattle.std.proofs.Common.{if◌then◌else◌, None, ◌≡◌, ◌⊎◌, inl, inr, ◌↔◌, ℕ, suc, ◌+◌, ◌<◌, ◌≤◌, Bool, true, false, IsTrue, List, [], ◌∷◌, ◌++◌, length, nat_lt, Option, Some, refl, ap, sym, subst, ◌∙◌, arith, append-nil, append_assoc, length-append}
+use Rattle.std.proofs.Common.{if◌then◌else◌, None, ◌≡◌, inl, ◌↔◌, ℕ, suc, ◌+◌, ◌<◌, ◌≤◌, Bool, true, false, IsTrue, List, [], ◌∷◌, ◌++◌, length, nat_lt, Option, Some, refl, ap, sym, subst, ◌∙◌, arith, append-nil, append_assoc, length-append}
 use Rattle.std.proofs.lemmas.Bool.Decides.{nat_tests}
 use Rattle.mea_io.specs.Bytes.{HasWrittenPart}
 use Rattle.mea_script.specs.declared.player.Player.{Player}
@@ -9,7 +9,7 @@ use Rattle.mea_script.specs.Player.{due, due_from, told_of, lines_left, GoesOn, 
 use Rattle.mea_script.specs.Rules.{Rules, event_at}
 use Rattle.mea_script.specs.Runs.{IsFault}
 use Rattle.mea_script.specs.Told.{Told, with_text, told_line, told_from}
-use Rattle.mea_script.proofs.Tells.{told_first, told_last, told_none, with_both, goes_further, goes_alike, ends_later, ends_now, status_of_stop, stops_at_fault}
+use Rattle.mea_script.proofs.Tells.{told_first, told_last, told_none, with_both, goes_further, goes_alike, ends_later, ends_now, stops_at_fault}
 
 pub due_last : {S E : Type 0} (m : Rules S E) (s : S) (p : Player) (line : List ℕ) (room : ℕ) → IsUnended line → 0 < length line → length line ≤ room
     → due m s p room line ≡ due_from m s p false ((line ++ []) ∷ [])
@@ -108,19 +108,12 @@ ends_line m s t start p q now end after rest bytes before room first second thir
     ends_in_part start next q.text.items before first second third status text (goes_alike start _ _ first second line so_far)
 
 -- a line ended the script
-module _ {S E : Type 0} (m : Rules S E) (s : S) (start : Told) (p : Player) (now end after rest bytes : List ℕ) (room : ℕ) (first second : Option (List ℕ))
-    (so_far : GoesOn start (due m s p (length now + (length rest + room)) (now ++ (rest ++ bytes))) first second)
-    (cuts : rest ≡ end ++ 10 ∷ after) (unended : IsUnended (now ++ end)) (status : Status) (text : List ℕ)
-    (stops : (long : Bool) (lines : List (List ℕ)) → Stops status (due_from m s p long ((now ++ end) ∷ lines)) text) where
-  stopped : Stops status (due m s p (length now + (length rest + room)) (now ++ (rest ++ bytes))) text
-  stopped = stops_due status text _ _ (due_first m s p now end after rest bytes room cuts unended)
-      (stops (nat_lt (length after + room) (length (after ++ bytes))) (lines_left (length after + room) (after ++ bytes)))
-
-  pub stopped_text : (before : List ℕ) → first ≡ Some before → Ends status start.text before second text
-  stopped_text before is = ends_later start _ status before first second second text so_far (ends_now status _ text (before ++ so_far.written) second stopped (so_far.taken before is))
-
-  pub stopped_status : IsFault status ⊎ (status ≡ start.status)
-  stopped_status = elim (status_of_stop status _ text stopped) [ inl fault ↦ inl fault | inr same ↦ inr (same ∙ sym (ap (λ t. t.status) so_far.told)) ]
+pub stops_at_line : {S E : Type 0} (m : Rules S E) (s : S) (p : Player) (now end after rest bytes : List ℕ) (room : ℕ) (status : Status) (text : List ℕ) → rest ≡ end ++ 10 ∷ after → IsUnended (now ++ end)
+    → ((long : Bool) (lines : List (List ℕ)) → Stops status (due_from m s p long ((now ++ end) ∷ lines)) text)
+    → Stops status (due m s p (length now + (length rest + room)) (now ++ (rest ++ bytes))) text
+stops_at_line m s p now end after rest bytes room status text cuts unended stops =
+    stops_due status text _ _ (due_first m s p now end after rest bytes room cuts unended)
+    (stops (nat_lt (length after + room) (length (after ++ bytes))) (lines_left (length after + room) (after ++ bytes)))
 
 -- nothing more can be told
 pub ends_at_fault : {S E : Type 0} (m : Rules S E) (s : S) (start : Told) (p : Player) (room : ℕ) (bytes before : List ℕ) (first second : Option (List ℕ)) (status : Status)

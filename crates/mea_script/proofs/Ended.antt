@@ -1,23 +1,12 @@
--- which line ended a text, and how many had ended before
-use Rattle.std.proofs.Common.{◌≡◌, inl, inr, ℕ, suc, ◌+◌, ◌≤◌, ◌==◌, Bool, true, false, cond, not, List, [], ◌∷◌, ◌++◌, length, take, drop, Option, Some, None, refl, ap, sym, ◌∙◌, arith, append_assoc, length-take}
+-- how many lines of a script have ended
+use Rattle.std.proofs.Common.{◌≡◌, inl, inr, ℕ, suc, ◌+◌, ◌≤◌, ◌==◌, true, false, cond, not, List, [], ◌∷◌, ◌++◌, length, take, drop, Some, refl, ap, sym, ◌∙◌, arith, append_assoc, length-take}
 use Rattle.std.proofs.lemmas.List.{take-append-drop}
 use Rattle.std.proofs.lemmas.List.Sums.{sum_by-cons, sum_by-append}
 use Rattle.std.specs.Prelude.{if◌then◌else◌}
 use Rattle.std.specs.List.{position_or_len}
-use Rattle.mea_family.specs.declared.stop.Stop.{Stop}
 use Rattle.mea_script.specs.declared.status.Status.{Status}
 use Rattle.mea_script.specs.Lines.{IsUnended, lines_ended}
 use Rattle.mea_script.specs.Runs.{IsFault, IsTakenTo, line_of}
-use Rattle.mea_script.specs.Told.{status_at}
-
-pub line_at : (cause : Option Stop) (bad long : Bool) (n m : ℕ) → line_of (status_at cause bad long n) ≡ Some m → m ≡ n
-line_at (Some stop) bad long n m is = cc
-line_at None true long n m is = cc
-line_at None false true n m is = absurd (cc)
-line_at None false false n m is = absurd (cc)
-
-pub line_of_status : (status : Status) (cause : Option Stop) (bad long : Bool) (n m : ℕ) → status ≡ status_at cause bad long n → line_of status ≡ Some m → m ≡ n
-line_of_status status cause bad long n m same is = line_at cause bad long n m (sym (ap line_of same) ∙ is)
 
 -- a fault names no line
 pub no_line : (status : Status) (n : ℕ) → IsFault status → line_of status ≡ Some n → ⊥

@@ -2,7 +2,6 @@ pub mod Begins
 pub mod Lines
 pub mod Unended
 pub mod Tells
-pub mod Plays
 pub mod Dues
 pub mod Puts
 pub mod Pieces

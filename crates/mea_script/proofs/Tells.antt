@@ -67,13 +67,6 @@ told_cut m s n line bytes h some =
 pub with_both : (one two : List ℕ) (told : Told) → with_text (one ++ two) told ≡ with_text one (with_text two told)
 with_both one two told = ap (λ text. record { text = text; status = told.status }) (append_assoc one two told.text)
 
-pub goes_nowhere : (old new : Told) (taken : Option (List ℕ)) → old ≡ new → GoesOn old new taken taken
-goes_nowhere old new taken same = record {
-  written = [];
-  taken = λ before is. is ∙ ap (λ bytes. Some bytes) (sym (append-nil before));
-  told = same;
-}
-
 pub goes_further : (one two three : Told) (first second third : Option (List ℕ)) → GoesOn one two first second → GoesOn two three second third → GoesOn one three first third
 goes_further one two three first second third g h = record {
   written = g.written ++ h.written;

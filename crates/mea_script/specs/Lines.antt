@@ -6,6 +6,7 @@ use Rattle.std.specs.List.{slice_split, position_or_len}
 abbrev pub limit : ℕ
 limit = 16777216
 
+-- a script has more
 abbrev pub is_long : List ℕ → Bool
 is_long bytes = nat_lt limit (length bytes)
 

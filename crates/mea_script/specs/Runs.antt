@@ -9,6 +9,7 @@ use Rattle.mea_script.specs.Lines.{lines_ended}
 use Rattle.mea_script.specs.Rules.{Rules}
 use Rattle.mea_script.specs.Told.{Told}
 
+-- the status that a program ends with, as a number
 abbrev pub code_of : Status → ℕ
 code_of statuses.Done = 0
 code_of (statuses.Stopped at cause) = 1

@@ -16,12 +16,14 @@ pub record Told : Type 0 where
 -- ---- how a script ends after n replies: where an event has a cause for refusal, where a line is no event
 -- line, where the script is too long, or at its end
 
+-- its status
 abbrev pub status_at : Option Stop → Bool → Bool → ℕ → Status
 status_at (Some stop) bad long n = Stopped n stop
 status_at None true long n = BadLine n
 status_at None false true n = TooLong
 status_at None false false n = Done
 
+-- the word of a cause; want of memory has none
 abbrev pub cause_text : Stop → List ℕ
 cause_text stops.Unknown = codes " unknown"
 cause_text stops.Borrowed = codes " borrowed"
@@ -29,12 +31,14 @@ cause_text stops.Zero = codes " zero"
 cause_text stops.Overflow = codes " overflow"
 cause_text stops.NoMemory = []
 
+-- the line that says so
 abbrev pub ending_at : Option Stop → Bool → Bool → ℕ → List ℕ
 ending_at (Some stop) bad long n = codes "stop" ++ number_text n ++ cause_text stop ++ codes "\n"
 ending_at None true long n = counted_line (codes "bad") n
 ending_at None false true n = counted_line (codes "long") n
 ending_at None false false n = counted_line (codes "done") n
 
+-- that line and that status
 abbrev pub ending : Option Stop → Bool → Bool → ℕ → Told
 ending cause bad long n = record { text = ending_at cause bad long n; status = status_at cause bad long n }
 

@@ -134,6 +134,7 @@ impl Player {
     }
 
     // Plays the line that ends so, whether or not it has begun before.
+    #[inline(always)]
     fn play_line<M: Machine>(&mut self, machine: &mut M, end: &[u8]) -> Result<(), Status>
         requires few { self.old.lines ≤ limit }
         requires stands { M.stands_at machine.old self.old.lines }

@@ -17,7 +17,7 @@ use Rattle.mea_sem_core.specs.Core as cores
 use Rattle.mea_sem_core.specs.Acquire.{demand_of}
 use Rattle.mea_sem.specs.declared.entries.SemaphoreEntry.{SemaphoreEntry}
 use Rattle.mea_sem.specs.declared.entries.FutureEntry.{FutureEntry}
-use Rattle.mea_sem.specs.Store.{Store, semaphore_of, stage_of, core_in, future_of, hall_of, IsHome, IsOwned, IsNumbered, IsLinked}
+use Rattle.mea_sem.specs.Store.{Store, semaphore_of, stage_of, core_in, future_of, hall_of, IsOwned, IsNumbered, IsLinked}
 use Rattle.mea_sem.specs.Kept.{things_by, things, wakers_in, IsKeptEntry, AreKeptSemaphores}
 use Rattle.mea_sem.proofs.Renumbered.{hall_renumbered}
 use Rattle.mea_sem.proofs.Weighs.{if_plain, always}
@@ -82,15 +82,12 @@ module _ (st : Store) (w sp next i : ℕ) (k : AreKeptSemaphores st w sp next) (
     not_there : (q : ℕ) (e : SemaphoreEntry) → get st.semaphores q ≡ Some e → i ≡ q → ⊥
     not_there q e is same = absurd (let gone : get st.semaphores q ≡ None = ap (get st.semaphores) (sym same) ∙ no_semaphore in cc)
 
-    home_of : (f : ℕ) (x : FutureEntry) → get st.futures f ≡ Some x → IsHome st x
-    home_of f x is = k.linked.home f x is
-
     back : (f : ℕ) (x : FutureEntry) → get st'.futures f ≡ Some x → get st.futures f ≡ Some x
     back f x is = ap (λ m. get m f) (sym futures) ∙ is
 
     linked_now : IsLinked st' (i + 1)
     linked_now = record {
-      home = λ f x is. (let h = home_of f x (back f x is) in
+      home = λ f x is. (let h = k.linked.home f x (back f x is) in
           record {
             entry = h.entry;
             there = semaphore_other x.semaphore (not_there x.semaphore h.entry h.there)
@@ -155,7 +152,7 @@ module _ (st : Store) (w sp next i : ℕ) (k : AreKeptSemaphores st w sp next) (
         at_each : (g : ℕ) (o : Option FutureEntry) → get st.futures g ≡ o → option_map (future_of st'.semaphores) o ≡ option_map (future_of st.semaphores) o
         at_each g None is = refl
         at_each g (Some x) is =
-            let h = home_of g x is in
+            let h = k.linked.home g x is in
             λ j. Some (record {
               semaphore = x.semaphore;
               demand = demand_of x.acquire;

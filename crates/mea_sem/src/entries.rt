@@ -335,18 +335,29 @@ impl SemaphoreEntry {
         self.lose(demand, plain);
     }
 
-    /// Polls a new acquire that has to wait. Where there is no memory, nothing has changed.
-    pub fn queue(&mut self, acquire: &mut Acquire, waker: u64) -> Result<(), NoMemory>
+    /// Polls a new acquire that has to wait. Its waker is counted before it is registered. Where there is no memory, nothing
+    /// has changed.
+    pub fn queue(
+        &mut self,
+        acquire: &mut Acquire,
+        waker: u64,
+        ready: &mut Ready<u64>,
+    ) -> Result<(), NoMemory>
         requires new { (demand : ℕ) × (acquire.old ≡ Acquire.New demand) }
         requires waits { Waits self.old.core acquire.old }
         ensures queued { OnOk result ((number : ℕ) × Queues self.old.core self.new.core (demand_of acquire.old) waker number × (acquire.new ≡ Acquire.Queued (demand_of acquire.old) number)) }
         ensures rest { OnOk result (self.new ≡ record self.old { core = self.new.core }) }
         ensures held { OnOk result (held_of self.new.core ≡ held_of self.old.core) }
-        ensures err { OnErr result ((self.new ≡ self.old) × (acquire.new ≡ acquire.old)) }
+        ensures counted { OnOk result (ready.new ≡ record ready.old { registered = ready.old.registered + 1 }) }
+        ensures err { OnErr result ((self.new ≡ self.old) × (acquire.new ≡ acquire.old) × (ready.new ≡ ready.old)) }
     {
+        ready.register()?;
         match self.core.poll_open(acquire, waker) {
             Ok(_) => Ok(()),
-            Err(_) => Err(NoMemory),
+            Err(_) => {
+                ready.unregister(1);
+                Err(NoMemory)
+            }
         }
     }
 

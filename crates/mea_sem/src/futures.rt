@@ -20,6 +20,7 @@ use mea_sem_core::Acquire;
 // What the events on futures do. Each finds its cause for refusal at what it looks up.
 impl SemFamily {
     // `acq` and its three other forms.
+    #[inline(always)]
     pub(crate) fn acquire(
         &mut self,
         number: u64,
@@ -101,11 +102,7 @@ impl SemFamily {
             return Ok(Answer::Gone);
         }
         if future.is_new() {
-            ready.register()?;
-            let Ok(()) = entry.queue(&mut future.acquire, waker) else {
-                ready.unregister(1);
-                return Err(Stop::NoMemory);
-            };
+            entry.queue(&mut future.acquire, waker, ready)?;
             self.next = number as u128 + 1;
             return Ok(Answer::Pending);
         }

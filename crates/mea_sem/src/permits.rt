@@ -17,6 +17,7 @@ use mea_family::{Answer, Form, Stop};
 // What the events that make, change and end permits do. Each finds its cause for refusal at what it looks up.
 impl SemFamily {
     // `try` and `tryo`.
+    #[inline(always)]
     pub(crate) fn try_permit(
         &mut self,
         number: u64,

@@ -14,6 +14,7 @@ use mea_sem_core::SemCore;
 
 // What the events on semaphores do. Each finds its cause for refusal at the entry that it looks up.
 impl SemFamily {
+    #[inline(always)]
     pub(crate) fn make(&mut self, number: u64, n: u64) -> Result<Answer, Stop>
         requires { self.old.next ≤ number }
         ensures played { IfOk result (λ reply. PlaysQuietly self.old number (SemEvent.New n) reply self.new) }

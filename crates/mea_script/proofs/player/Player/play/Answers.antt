@@ -5,7 +5,8 @@ use Rattle.mea_script.specs.Begun.{Keeps}
 use Rattle.mea_script.proofs.Unended.{unended_append, cut_joins, cut_nothing}
 use Rattle.mea_script.proofs.Ended.{none_ended, one_ended}
 use Rattle.mea_script.proofs.Tells.{goes_alike, goes_further}
-use Rattle.mea_script.proofs.Dues.{goes_line, goes_written, ends_in_part, ends_line, stopped_text, stopped_status, ends_at_fault, due_begun}
+use Rattle.mea_script.proofs.Dues.{goes_line, goes_written, ends_in_part, ends_line, stops_at_line, ends_at_fault, due_begun}
+use Rattle.mea_script.proofs.Pieces.{stops_later_status, stops_later}
 use Rattle.mea_script.proofs.player.Player.play.Goals as goal
 
 pub returns-in_err-play_line-clause-status : goal.returns-in_err-play_line-clause-status
@@ -14,9 +15,10 @@ returns-in_err-play_line-clause-status g c =
     rw (p.1, p.2) (λ line bytes room keeps unended.
     let so_far = c.loop-end.invariant.told line bytes room keeps unended in
     let parts = cut_joins c.loop-end.rest.now c.in-Some.end.now c.in-Some.after.now (rw c.in-Some.is at c.cut_line.ensures) in
-    stopped_status g.M.Machine.rules (g.M.Machine.state c.loop-end.machine) _ c.loop-end.self so_far.0 c.in-Some.end.now c.in-Some.after.now c.loop-end.rest.now bytes room _ _ so_far.3 parts.0
-    (unended_append so_far.0 c.in-Some.end.now so_far.2 parts.1) c.in_err-play_line.field-0.0 c.play_line.new.self.text.items
-    (λ long lines. c.in_err-play_line.ensures.stops so_far.0 long lines so_far.1))
+    stops_later_status _ _ _ _ so_far.3 c.in_err-play_line.field-0.0 c.play_line.new.self.text.items
+    (stops_at_line g.M.Machine.rules (g.M.Machine.state c.loop-end.machine) c.loop-end.self so_far.0 c.in-Some.end.now c.in-Some.after.now c.loop-end.rest.now bytes room
+    c.in_err-play_line.field-0.0 c.play_line.new.self.text.items parts.0 (unended_append so_far.0 c.in-Some.end.now so_far.2 parts.1)
+    (λ long lines. c.in_err-play_line.ensures.stops so_far.0 long lines so_far.1)))
 
 pub returns-in_err-play_line-clause-text : goal.returns-in_err-play_line-clause-text
 returns-in_err-play_line-clause-text g c =
@@ -24,9 +26,10 @@ returns-in_err-play_line-clause-text g c =
     rw (p.1, p.2) (λ line bytes before room keeps unended is.
     let so_far = c.loop-end.invariant.told line bytes room keeps unended in
     let parts = cut_joins c.loop-end.rest.now c.in-Some.end.now c.in-Some.after.now (rw c.in-Some.is at c.cut_line.ensures) in
-    stopped_text g.M.Machine.rules (g.M.Machine.state c.loop-end.machine) _ c.loop-end.self so_far.0 c.in-Some.end.now c.in-Some.after.now c.loop-end.rest.now bytes room _ _ so_far.3 parts.0
-    (unended_append so_far.0 c.in-Some.end.now so_far.2 parts.1) c.in_err-play_line.field-0.0 c.play_line.new.self.text.items
-    (λ long lines. c.in_err-play_line.ensures.stops so_far.0 long lines so_far.1) before is)
+    stops_later _ _ _ _ so_far.3 c.in_err-play_line.field-0.0 c.play_line.new.self.text.items
+    (stops_at_line g.M.Machine.rules (g.M.Machine.state c.loop-end.machine) c.loop-end.self so_far.0 c.in-Some.end.now c.in-Some.after.now c.loop-end.rest.now bytes room
+    c.in_err-play_line.field-0.0 c.play_line.new.self.text.items parts.0 (unended_append so_far.0 c.in-Some.end.now so_far.2 parts.1)
+    (λ long lines. c.in_err-play_line.ensures.stops so_far.0 long lines so_far.1)) before is)
 
 pub returns-in_err-write_full-clause-text : goal.returns-in_err-write_full-clause-text
 returns-in_err-write_full-clause-text g c =

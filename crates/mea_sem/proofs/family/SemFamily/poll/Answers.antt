@@ -1,7 +1,6 @@
-use Rattle.std.proofs.Common.{◌≡◌, ℕ, ◌+◌, ◌-◌, Some, None, inl, inr, refl, rules, sym, ap, ◌∙◌, arith}
+use Rattle.std.proofs.Common.{◌+◌, Some, None, inl, refl, rules, sym, ap, ◌∙◌, arith}
 use Rattle.std.specs.Option.{option_copied_mut}
 use Rattle.mea_sem.specs.declared.entries.FutureEntry.{FutureEntry}
-use Rattle.mea_base.specs.Ready.{Waking}
 use Rattle.mea_base.proofs.Tests.{on_err}
 use Rattle.mea_sem.proofs.Meets.{registered_in, MeetsFuture, kept_as_futures}
 use Rattle.mea_sem.proofs.Refusals.{future_unknown, lacks_memory}
@@ -138,65 +137,49 @@ pub returns-then-is_closed-clause-allowed : goal.returns-then-is_closed-clause-a
 returns-then-is_closed-clause-allowed c = may_poll (met (goal.at.returns-then-is_closed-clause-allowed c).In-Some-get_mut) c.args.waker
 
 -- ---- it waits from now on
-pub invariant_of-self-in_err-register : goal.invariant_of-self-in_err-register
-invariant_of-self-in_err-register c = own (kept_as_found (met (goal.at.invariant_of-self-in_err-register c).In-Some-get_mut) _ _ _ c.in-Some-get_mut.entry.now c.in-Some.future.now refl refl
-    refl ((c.get_mut.follows.holds c.in-Some.future.now).3 (search rules)).0
-    (beside (lent c.self.inside c.args.ready.now) _ _ _ ((c.get_mut-2.follows.holds c.in-Some-get_mut.entry.now).3 (search rules)).0) _ (kept_lent c.self.inside c.args.ready.now c.self.view_is c.self.invariant c.requires.room).room)
-
-pub returns-in_err-register-clause-refused : goal.returns-in_err-register-clause-refused
-returns-in_err-register-clause-refused c = lacks_memory c.from_residual-in_err-register.result _ c.from_residual-in_err-register.ensures.1
-    (may_poll (met (goal.at.returns-in_err-register-clause-refused c).In-Some-get_mut) c.args.waker)
-
-pub returns-in_err-register-clause-err : goal.returns-in_err-register-clause-err
-returns-in_err-register-clause-err c = on_err c.from_residual-in_err-register.result _ (
-  ap part_of (
-      seen_as_found (met (goal.at.returns-in_err-register-clause-err c).In-Some-get_mut) _ _ _ c.in-Some-get_mut.entry.now c.in-Some.future.now refl refl
-      refl ((c.get_mut.follows.holds c.in-Some.future.now).3 (search rules)).0
-      (beside (lent c.self.inside c.args.ready.now) _ _ _ ((c.get_mut-2.follows.holds c.in-Some-get_mut.entry.now).3 (search rules)).0) _ refl),
-  c.in_err-register.ensures.err,
-)
-
-pub invariant_of-self-in_default-queue : goal.invariant_of-self-in_default-queue
-invariant_of-self-in_default-queue c =
+pub invariant_of-self-in_err-queue : goal.invariant_of-self-in_err-queue
+invariant_of-self-in_err-queue c =
     let x2 : FutureEntry = record c.in-Some.future.now { acquire = c.queue.new.acquire } in
-    own (kept_as_found (met (goal.at.invariant_of-self-in_default-queue c).In-Some-get_mut) _ _ _ c.queue.new.self x2 c.in_default-queue.ensures.err.0
-    (λ j. record c.in-Some.future.now { acquire = c.in_default-queue.ensures.err.1 j }) refl ((c.get_mut.follows.holds x2).3 (search rules)).0
+    own (kept_as_found (met (goal.at.invariant_of-self-in_err-queue c).In-Some-get_mut) _ _ _ c.queue.new.self x2 c.in_err-queue.ensures.err.0
+    (λ j. record c.in-Some.future.now { acquire = c.in_err-queue.ensures.err.1 j }) refl ((c.get_mut.follows.holds x2).3 (search rules)).0
     (beside (lent c.self.inside c.args.ready.now) _ _ _ ((c.get_mut-2.follows.holds c.queue.new.self).3 (search rules)).0) _ (kept_lent c.self.inside c.args.ready.now c.self.view_is c.self.invariant c.requires.room).room)
 
-pub returns-in_default-queue-clause-refused : goal.returns-in_default-queue-clause-refused
-returns-in_default-queue-clause-refused c = inr (may_poll (met (goal.at.returns-in_default-queue-clause-refused c).In-Some-get_mut) c.args.waker, refl)
+pub returns-in_err-queue-clause-refused : goal.returns-in_err-queue-clause-refused
+returns-in_err-queue-clause-refused c = lacks_memory c.from_residual-in_err-queue.result _ c.from_residual-in_err-queue.ensures.1
+    (may_poll (met (goal.at.returns-in_err-queue-clause-refused c).In-Some-get_mut) c.args.waker)
 
-pub returns-in_default-queue-clause-err : goal.returns-in_default-queue-clause-err
-returns-in_default-queue-clause-err c =
-    let back : c.args.ready.now.registered + 1 - 1 ≡ c.args.ready.now.registered = omega arith in
-    let x2 : FutureEntry = record c.in-Some.future.now { acquire = c.queue.new.acquire } in (
-      ap part_of (seen_as_found (met (goal.at.returns-in_default-queue-clause-err c).In-Some-get_mut) _ _ _ c.queue.new.self x2 c.in_default-queue.ensures.err.0
-          (λ j. record c.in-Some.future.now { acquire = c.in_default-queue.ensures.err.1 j }) refl ((c.get_mut.follows.holds x2).3 (search rules)).0
+pub returns-in_err-queue-clause-err : goal.returns-in_err-queue-clause-err
+returns-in_err-queue-clause-err c =
+    let x2 : FutureEntry = record c.in-Some.future.now { acquire = c.queue.new.acquire } in
+    on_err c.from_residual-in_err-queue.result _ (
+      ap part_of (
+          seen_as_found (met (goal.at.returns-in_err-queue-clause-err c).In-Some-get_mut) _ _ _ c.queue.new.self x2 c.in_err-queue.ensures.err.0
+          (λ j. record c.in-Some.future.now { acquire = c.in_err-queue.ensures.err.1 j }) refl ((c.get_mut.follows.holds x2).3 (search rules)).0
           (beside (lent c.self.inside c.args.ready.now) _ _ _ ((c.get_mut-2.follows.holds c.queue.new.self).3 (search rules)).0) _ refl),
-      c.unregister.ensures ∙ ap (λ (w : Waking ℕ). record w { registered = w.registered - 1 }) c.in_ok-register.ensures.ok ∙ ap (λ n. record c.args.ready.now { registered = n }) back,
+      c.in_err-queue.ensures.err.2,
     )
 
 pub invariant_of-self-then-is_new : goal.invariant_of-self-then-is_new
 invariant_of-self-then-is_new c =
     let x2 : FutureEntry = record c.in-Some.future.now { acquire = c.queue.new.acquire } in
-    let number = c.in-Ok.ensures.queued in
+    let number = c.in_ok-queue.ensures.queued in
     own ((queued_done (met (goal.at.invariant_of-self-then-is_new c).In-Some-get_mut) c.args.waker number.0 (registered_in (lent c.self.inside c.args.ready.now) + 1) (record { wakers = c.args.ready.now.wakers; spare = c.args.ready.now.registered + 1 })
     _ _ c.queue.new.self x2 (c.is_new.ensures.new c.if-is_new.true)
     (c.is_ready.ensures.waits c.if-is_ready.false (sym c.is_closed.ensures.is ∙ c.if-is_closed.false))
     refl refl (omega (arith, (kept_lent c.self.inside c.args.ready.now c.self.view_is c.self.invariant c.requires.room).room))
     (λ j. record c.in-Some.future.now { acquire = number.2 j }) ((c.get_mut.follows.holds x2).3 (search rules)).0
-    (beside (lent c.self.inside c.args.ready.now) _ _ _ ((c.get_mut-2.follows.holds c.queue.new.self).3 (search rules)).0) number.1 c.in-Ok.ensures.rest c.in-Ok.ensures.held).kept)
+    (beside (lent c.self.inside c.args.ready.now) _ _ _ ((c.get_mut-2.follows.holds c.queue.new.self).3 (search rules)).0) number.1 c.in_ok-queue.ensures.rest c.in_ok-queue.ensures.held).kept)
 
 pub returns-then-is_new-clause-played : goal.returns-then-is_new-clause-played
 returns-then-is_new-clause-played c =
     let x2 : FutureEntry = record c.in-Some.future.now { acquire = c.queue.new.acquire } in
-    let number = c.in-Ok.ensures.queued in
-    at_list c.in_ok-register.ensures.ok (lists (met (goal.at.returns-then-is_new-clause-played c).In-Some-get_mut).meets (queued_done (met (goal.at.returns-then-is_new-clause-played c).In-Some-get_mut) c.args.waker number.0 (registered_in (lent c.self.inside c.args.ready.now) + 1) (record { wakers = c.args.ready.now.wakers; spare = c.args.ready.now.registered + 1 })
+    let number = c.in_ok-queue.ensures.queued in
+    at_list c.in_ok-queue.ensures.counted (lists (met (goal.at.returns-then-is_new-clause-played c).In-Some-get_mut).meets (queued_done (met (goal.at.returns-then-is_new-clause-played c).In-Some-get_mut) c.args.waker number.0 (registered_in (lent c.self.inside c.args.ready.now) + 1) (record { wakers = c.args.ready.now.wakers; spare = c.args.ready.now.registered + 1 })
     _ _ c.queue.new.self x2 (c.is_new.ensures.new c.if-is_new.true)
     (c.is_ready.ensures.waits c.if-is_ready.false (sym c.is_closed.ensures.is ∙ c.if-is_closed.false))
     refl refl (omega (arith, (kept_lent c.self.inside c.args.ready.now c.self.view_is c.self.invariant c.requires.room).room))
     (λ j. record c.in-Some.future.now { acquire = number.2 j }) ((c.get_mut.follows.holds x2).3 (search rules)).0
-    (beside (lent c.self.inside c.args.ready.now) _ _ _ ((c.get_mut-2.follows.holds c.queue.new.self).3 (search rules)).0) number.1 c.in-Ok.ensures.rest c.in-Ok.ensures.held) (omega arith))
+    (beside (lent c.self.inside c.args.ready.now) _ _ _ ((c.get_mut-2.follows.holds c.queue.new.self).3 (search rules)).0) number.1 c.in_ok-queue.ensures.rest c.in_ok-queue.ensures.held) (omega arith))
 
 pub returns-then-is_new-clause-allowed : goal.returns-then-is_new-clause-allowed
 returns-then-is_new-clause-allowed c = may_poll (met (goal.at.returns-then-is_new-clause-allowed c).In-Some-get_mut) c.args.waker

@@ -14,18 +14,18 @@ use std::alloc::Global;
 
 /// All families as the machine of scripts.
 #[derive(Drop)]
-pub struct Halls {
+pub struct PlayMachine {
     hall: Hall,
     // The wakers of the last event.
     wakes: Vec<u64>,
 }
 
-impl Halls {
+impl PlayMachine {
     /// Nothing was played. It takes no memory.
-    pub fn new(alloc: Global) -> Halls
+    pub fn new(alloc: Global) -> PlayMachine
         ensures { result.hall ≡ record { world = empty_world; wakes = []; events = 0 } }
     {
-        Halls {
+        PlayMachine {
             hall: Hall::new(alloc),
             wakes: Vec::new(alloc),
         }
@@ -33,7 +33,7 @@ impl Halls {
 }
 
 #[tactic(auto, unfolding(crate::specs::Script::hall_rules))]
-impl Machine for Halls {
+impl Machine for PlayMachine {
     type Event = Event;
 
     ghost use Rattle.std.specs.Prelude.{◌≡◌, []};
@@ -52,6 +52,7 @@ impl Machine for Halls {
         event_of_line(line)
     }
 
+    #[inline(always)]
     fn play(&mut self, _number: u64, event: &Event, text: &mut Vec<u8>) -> Result<(), Stop> {
         play(&mut self.hall, &mut self.wakes, text, event)
     }
@@ -62,6 +63,7 @@ impl Machine for Halls {
 }
 
 // Plays an event and puts its reply.
+#[inline(always)]
 fn play(
     hall: &mut Hall,
     wakes: &mut Vec<u64>,
