@@ -2,7 +2,7 @@
 //! `run_draw`. Below stand the halls, in `mea_hall`, and the picture, in `mea_picture`.
 #![tactic(auto)]
 
-mod halls;
+mod machine;
 mod running;
 
 use crate::running::run_draw;

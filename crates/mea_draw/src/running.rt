@@ -7,7 +7,7 @@ ghost use Rattle.mea_picture.specs.Drawing.{draw_status, IsDrawFault, Draws, End
 ghost use Rattle.mea_draw.specs.Drawing.{hall_steps, drawing_of, played_status, IsDraw};
 ghost use Rattle.mea_draw.specs.Model.{PollsAlike};
 
-use crate::halls::Halls;
+use crate::machine::DrawMachine;
 use mea_io::{Sink, Source};
 use mea_picture::{DrawStatus, draw_script};
 use mea_script::Status;
@@ -62,6 +62,6 @@ pub fn run_draw<S: Source, K: Sink>(
     if !words.is_empty() {
         return DrawStatus::Played(Status::Usage);
     }
-    let halls = Halls::new(alloc);
-    draw_script(alloc, halls, source, sink)
+    let machine = DrawMachine::new(alloc);
+    draw_script(alloc, machine, source, sink)
 }

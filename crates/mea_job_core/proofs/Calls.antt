@@ -15,7 +15,7 @@ use Rattle.mea_job_core.specs.declared.submit_error.SubmitError.{SubmitError}
 use Rattle.mea_job_core.specs.Calls as call
 use Rattle.mea_job_core.specs.Calls.{Call, Answer, number_given, IsNewFor, next_after, AreNewFrom, submits, submits_on, next_in, refusal_in, finish_answer_in, recall_answer_in, counts_in, called, answer_in, all_called, called_on, answer_of, all_called_on, IsNewIn, AddsAtMostOne}
 use Rattle.mea_job_core.specs.Record.{State, Job, Finished, Record, is_queued, is_running, is_finished, is_returned, passes, pick, submission_of, queued_in, running_in, count_in, in_state, new_record, put, tells, starts, finishes_as, finishes, kept_of}
-use Rattle.mea_job_core.specs.Runs.{Calls, Submit, SubmitRefused, Finish, FinishRefused, Recall, Take, Stop, TakeBack, PollEnd, NextWake, History, Goes}
+use Rattle.mea_job_core.specs.Runs.{Calls, Submit, SubmitRefused, Finish, FinishRefused, Recall, Take, Stop, TakeBack, PollEnd, NextWake, History}
 use Rattle.mea_job_core.specs.Service.{Service, new_service, told, is_over, is_full, with_result, after_finish, after_stop, value_of, refusal_of}
 use Rattle.mea_job_core.specs.Work.{ended, halted, next_of, number_in}
 use Rattle.mea_job_core.proofs.Picks.{get-pick, queued-still, running-out}
@@ -68,13 +68,13 @@ value_in (Some job) = by_test (is_queued job.state)
     by_test false = refl
 
 module _ {W : Type 0} where
-  pub kept_new : (permits waiting capacity : ℕ) → kept_of {W = W} (new_record permits waiting capacity) ≡ new_service permits waiting capacity
-  kept_new permits waiting capacity =
+  pub kept_new : (permits most_queued capacity : ℕ) → kept_of {W = W} (new_record permits most_queued capacity) ≡ new_service permits most_queued capacity
+  kept_new permits most_queued capacity =
       let q = ap (seen submission_of) (none_picked is_queued) ∙ seen-empty submission_of in
       let run = ap (seen (λ (j : Job). j.key)) (none_picked is_running) ∙ seen-empty (λ (j : Job). j.key) in
       let f = none_counted is_finished in
       let g = none_counted is_returned in
-      λ i. record (new_service permits waiting capacity) { work = record (new_service {W = W} permits waiting capacity).work { queued = q i; running = run i }; finished = f i; returned = g i }
+      λ i. record (new_service permits most_queued capacity) { work = record (new_service {W = W} permits most_queued capacity).work { queued = q i; running = run i }; finished = f i; returned = g i }
 
   -- ---- one call
   kept_submits : (r : Record W) (n key value : ℕ) → get r.jobs n ≡ None → (o : Option SubmitError) → kept_of (submits r n key value o) ≡ submits_on (kept_of r) n key value o
@@ -196,24 +196,17 @@ module _ {W : Type 0} where
       ∙ ap (λ s. all_called_on s cs) (same_call r c (new_in r (number_given c) low new.0))
 
   -- the one sentence
-  pub stands : (permits waiting capacity : ℕ) (cs : List (Call W)) → AreNewFrom 0 cs
-      → kept_of (all_called (new_record permits waiting capacity) cs) ≡ all_called_on (new_service permits waiting capacity) cs
-  stands permits waiting capacity cs new =
-      same_calls cs (new_record permits waiting capacity) (λ k some. absurd (nothing_there Job k some)) new
-      ∙ ap (λ s. all_called_on s cs) (kept_new permits waiting capacity)
+  pub stands : (permits most_queued capacity : ℕ) (cs : List (Call W)) → AreNewFrom 0 cs
+      → kept_of (all_called (new_record permits most_queued capacity) cs) ≡ all_called_on (new_service permits most_queued capacity) cs
+  stands permits most_queued capacity cs new =
+      same_calls cs (new_record permits most_queued capacity) (λ k some. absurd (nothing_there Job k some)) new
+      ∙ ap (λ s. all_called_on s cs) (kept_new permits most_queued capacity)
 
   -- a list of calls is one of those that the laws speak of
   pub record IsHistory (r : Record W) : Type 0 where
     pub finished : List (ℕ × ℕ)
     pub taken : List (ℕ × ℕ)
     pub history : History r finished taken
-
-  pub histories : (cs : List (Call W)) (r : Record W) → IsHistory r → AreNewFrom r.next cs → IsHistory (all_called r cs)
-  histories [] r was new = was
-  histories (c ∷ cs) r was new =
-      let led = leads r c new.0 in
-      histories cs (called r c) (record { finished = was.finished ++ led.finished; taken = was.taken ++ led.taken; history = Goes r (called r c) was.finished was.taken led.finished led.taken was.history led.calls })
-      (subst (λ n. AreNewFrom n cs) (sym led.next_is) new.1)
 
   -- ---- at most one waker
   none_added : (ws : List W) → AddsAtMostOne ws ws

@@ -51,10 +51,10 @@ ended_queued w k = by_next (next_after w k) refl
         nothing_in : (m : Names Submission) (a : ℕ) → m ≡ empty → IsSome (get m a) → ⊥
         nothing_in m a is some = nothing_there Submission a (subst (λ (q : Names Submission). IsSome (get q a)) is some)
 
-pub ended_counted : (w w' : Work) (k waiting next finished returned : ℕ) → w' ≡ ended w k → len w'.queued + len w'.running + 1 ≡ len w.queued + len w.running
-    → IsCounted w waiting next finished returned → IsCounted w' waiting next (finished + 1) returned
-ended_counted w w' k waiting next finished returned is fewer counted =
-    subst (λ v. IsCounted v waiting next (finished + 1) returned) (sym is) (record {
+pub ended_counted : (w w' : Work) (k most_queued next finished returned : ℕ) → w' ≡ ended w k → len w'.queued + len w'.running + 1 ≡ len w.queued + len w.running
+    → IsCounted w most_queued next finished returned → IsCounted w' most_queued next (finished + 1) returned
+ended_counted w w' k most_queued next finished returned is fewer counted =
+    subst (λ v. IsCounted v most_queued next (finished + 1) returned) (sym is) (record {
       few = (let no_more = (ended_queued w k).0 in omega (arith, no_more, counted.few));
       fits = (let permits = (ended_stopped w k).1 in omega (arith, permits, counted.fits));
       above = ended_above w k next counted.above;
@@ -67,8 +67,8 @@ ended_counted w w' k waiting next finished returned is fewer counted =
 pub recalled_fewer : (w : Work) (k : ℕ) → IsSome (get w.queued k) → len (recalled w k).queued + len (recalled w k).running + 1 ≡ len w.queued + len w.running
 recalled_fewer w k some = omega (arith, len-fewer w.queued k some)
 
-pub recalled_counted : (w : Work) (k waiting next finished returned : ℕ) → IsSome (get w.queued k) → w.stopped ≡ false → IsCounted w waiting next finished returned → IsCounted (recalled w k) waiting next finished (returned + 1)
-recalled_counted w k waiting next finished returned some still counted =
+pub recalled_counted : (w : Work) (k most_queued next finished returned : ℕ) → IsSome (get w.queued k) → w.stopped ≡ false → IsCounted w most_queued next finished returned → IsCounted (recalled w k) most_queued next finished (returned + 1)
+recalled_counted w k most_queued next finished returned some still counted =
     let fewer = len-fewer w.queued k some in record {
       few = omega (arith, fewer, counted.few);
       fits = counted.fits;
@@ -96,9 +96,9 @@ module _ (w : Work) (n key value : ℕ) where
       by_test true = (omega (arith, len-new w.queued n (record { key = key; value = value }) (not_there w.queued n above.queued)), refl)
       by_test false = (omega (arith, len-new w.running n key (not_there w.running n above.running)), refl)
 
-  pub accepted_counted : (w' : Work) (waiting next finished returned : ℕ) → w' ≡ accepted w n key value → next ≤ n → n < 18446744073709551615 → (free_of w ≡ 0 → len w.queued ≡ waiting → ⊥) → w.stopped ≡ false
-      → IsCounted w waiting next finished returned → IsCounted w' waiting (n + 1) finished returned
-  accepted_counted w' waiting next finished returned is le low room still counted = subst (λ v. IsCounted v waiting (n + 1) finished returned) (sym is) (by_test (free_of w == 0) refl)
+  pub accepted_counted : (w' : Work) (most_queued next finished returned : ℕ) → w' ≡ accepted w n key value → next ≤ n → n < 18446744073709551615 → (free_of w ≡ 0 → len w.queued ≡ most_queued → ⊥) → w.stopped ≡ false
+      → IsCounted w most_queued next finished returned → IsCounted w' most_queued (n + 1) finished returned
+  accepted_counted w' most_queued next finished returned is le low room still counted = subst (λ v. IsCounted v most_queued (n + 1) finished returned) (sym is) (by_test (free_of w == 0) refl)
     where
       queued_above : (a : ℕ) → IsSome (get w.queued a) → a < n
       queued_above = later w.queued next n le counted.above.queued
@@ -106,10 +106,10 @@ module _ (w : Work) (n key value : ℕ) where
       running_above : (a : ℕ) → IsSome (get w.running a) → a < n
       running_above = later w.running next n le counted.above.running
 
-      by_test : (b : Bool) → (free_of w == 0) ≡ b → IsCounted (by_free b) waiting (n + 1) finished returned
+      by_test : (b : Bool) → (free_of w == 0) ≡ b → IsCounted (by_free b) most_queued (n + 1) finished returned
       by_test true none =
           let more = len-new w.queued n (record { key = key; value = value }) (not_there w.queued n queued_above) in
-          let full : len w.queued ≡ waiting → ⊥ = room (eqb-true (free_of w) 0 none) in record {
+          let full : len w.queued ≡ most_queued → ⊥ = room (eqb-true (free_of w) 0 none) in record {
             few = (let few = counted.few in omega (arith, more, few, full));
             fits = counted.fits;
             above = record { queued = some_put w.queued n (record { key = key; value = value }) (n + 1) (omega arith) (later w.queued n (n + 1) (omega arith) queued_above); running = later w.running n (n + 1) (omega arith) running_above };
@@ -142,8 +142,8 @@ shut_more s u w w' n key value above is more shut =
     })
 
 -- ---- a new service, and one that was stopped
-pub counted_new : (w : Work) (p waiting : ℕ) → w ≡ new_work p → p + waiting < 4294967295 → IsCounted w waiting 0 0 0
-counted_new w p waiting is fits = subst (λ v. IsCounted v waiting 0 0 0) (sym is) (record {
+pub counted_new : (w : Work) (p most_queued : ℕ) → w ≡ new_work p → p + most_queued < 4294967295 → IsCounted w most_queued 0 0 0
+counted_new w p most_queued is fits = subst (λ v. IsCounted v most_queued 0 0 0) (sym is) (record {
   few = omega (arith, len-empty nat_cmp Submission);
   fits = fits;
   above = record { queued = λ m some. absurd (nothing_there Submission m some); running = λ m some. absurd (nothing_there ℕ m some) };
@@ -152,8 +152,8 @@ counted_new w p waiting is fits = subst (λ v. IsCounted v waiting 0 0 0) (sym i
   halted = λ over. absurd (cc);
 })
 
-pub halted_counted : (w w' : Work) (n waiting next finished returned : ℕ) → w' ≡ halted w → n ≡ len w.queued → IsCounted w waiting next finished returned → IsCounted w' waiting next finished (returned + n)
-halted_counted w w' n waiting next finished returned is many counted = subst (λ v. IsCounted v waiting next finished (returned + n)) (sym is) (record {
+pub halted_counted : (w w' : Work) (n most_queued next finished returned : ℕ) → w' ≡ halted w → n ≡ len w.queued → IsCounted w most_queued next finished returned → IsCounted w' most_queued next finished (returned + n)
+halted_counted w w' n most_queued next finished returned is many counted = subst (λ v. IsCounted v most_queued next finished (returned + n)) (sym is) (record {
   few = omega (arith, len-empty nat_cmp Submission);
   fits = counted.fits;
   above = record { queued = λ m some. absurd (nothing_there Submission m some); running = counted.above.running };

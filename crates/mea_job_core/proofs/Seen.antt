@@ -78,9 +78,6 @@ module _ {W : Type 0} where
       none_left : w'.stopped ≡ true → len w'.queued ≡ 0
       none_left over = ap (λ (w : Work). len w.queued) did ∙ ap len ((ended_queued base.work k).1 (halted (sym same_stop ∙ over))) ∙ len-empty nat_cmp Submission
 
-      pub finish_some : 0 < s.receivers.number
-      finish_some = some_receiver s place base.work w' shut only same_stop fewer
-
       pub finish_shut : IsShut u w' × IsOnly u.receivers.waiting place
       finish_shut = subst (λ (t : Shutdown W). IsShut t w' × IsOnly t.receivers.waiting place) (sym gone) (shut_less s place base.work w' shut only same_stop fewer)
 

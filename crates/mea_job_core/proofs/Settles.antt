@@ -17,9 +17,6 @@ use Rattle.mea_job_core.proofs.Stops.{none_queued}
 use Rattle.mea_job_core.proofs.Nexts.{next_there, none_left}
 use Rattle.mea_job_core.proofs.Histories.{IsAs, tells_as, polls_as, hands_as, DoesFinish, does_finish, AreBelow, below}
 
-no_jobs : len (running_in empty) ≡ 0
-no_jobs = ap len (ap (seen (λ (j : Job). j.key)) (same_named _ _ (λ q. get-pick is_running empty q ∙ ap (λ o. cond (passes is_running o) o None) (get-empty nat_cmp q) ∙ sym (get-empty nat_cmp q))) ∙ seen-empty (λ (j : Job). j.key)) ∙ len-empty nat_cmp ℕ
-
 no_submissions : len (queued_in empty) ≡ 0
 no_submissions = ap len (ap (seen submission_of) (same_named _ _ (λ q. get-pick is_queued empty q ∙ ap (λ o. cond (passes is_queued o) o None) (get-empty nat_cmp q) ∙ sym (get-empty nat_cmp q))) ∙ seen-empty submission_of) ∙ len-empty nat_cmp Submission
 

@@ -11,7 +11,7 @@ use Rattle.mea_base.proofs.NamedMaps.{get-seen, is_some-map}
 use Rattle.mea_by_name.specs.ByName.{Names}
 use Rattle.mea_by_name.proofs.Own.{seen-insert, seen-remove, seen-empty, seen-at, len-seen}
 use Rattle.mea_job_core.specs.Waiting.{Waiting}
-use Rattle.mea_job_core.specs.Work.{Submission, Work, Kept, new_work, soonest, next_of, started, next_after, ended, recalled, halted, first_in, first_back, handed, handed_of}
+use Rattle.mea_job_core.specs.Work.{Submission, Work, Kept, new_work, soonest, next_of, started, next_after, ended, recalled, first_in, first_back, handed, handed_of}
 use Rattle.mea_job_core.specs.Tied.{submission_of, submissions, values, work_seen, EndsJob}
 use Rattle.mea_by_name.proofs.Sorted.{AllIn, all_there}
 
@@ -122,13 +122,6 @@ module _ (p : ℕ) (q : Names Waiting) (r : Names ℕ) where
   seen_queued true old n x is still = absurd (cc)
   seen_queued false old n x is still = (λ i. record (work_seen p q r false) { queued = seen-insert submission_of q n x i }) ∙ ap (λ (w : Work). record w { queued = insert w.queued n (submission_of x) }) is
 
-  pub seen_running : (s : Bool) (old : Work) (n k : ℕ) → work_seen p q r s ≡ old → work_seen p q (insert r n k) s ≡ record old { running = insert old.running n k }
-  seen_running s old n k is = ap (λ (w : Work). record w { running = insert w.running n k }) is
-
-  pub seen_halted : (s : Bool) (old : Work) → work_seen p q r s ≡ old → s ≡ false → work_seen p q r true ≡ halted old
-  seen_halted true old is still = absurd (cc)
-  seen_halted false old is still = ap halted is
-
   -- ---- what is handed back
   pub none_back : (s : Bool) (old : Work) → work_seen p q r s ≡ old → s ≡ false → None ≡ first_back old
   none_back true old is still = absurd (cc)
@@ -185,10 +178,6 @@ module _ (p : ℕ) (q : Names Waiting) (r : Names ℕ) where
       let queued = ap (λ (w : Work). len w.queued) is in
       let running = ap (λ (w : Work). len w.running) is in
       omega (arith, less, queued, running, len-seen submission_of q, len-seen submission_of q')
-
-  pub next_going : (s : Bool) (old : Work) (n : ℕ) → work_seen p q r s ≡ old → s ≡ false → next_of (submissions q) (remove r n) ≡ next_after old n
-  next_going true old n is still = absurd (cc)
-  next_going false old n is still = ap (λ w. next_after w n) is
 
 pub new_seen : (p : ℕ) (q : Names Waiting) (r : Names ℕ) → q ≡ empty → r ≡ empty → work_seen p q r false ≡ new_work p
 new_seen p q r none nobody = (λ i. work_seen p (none i) (nobody i) false) ∙ (λ i. record (new_work p) { queued = seen-empty submission_of i })

@@ -86,7 +86,7 @@ module _ {W : Type 0} where
   -- ---- a call on the record
   -- why a job is refused: the service was stopped, or no permit is free and as many jobs are queued as may be
   abbrev pub refusal_in : Record W → Option SubmitError
-  refusal_in r = if r.stopped then Some submit.Stopped else if (free_of r == 0) && (len (queued_in r.jobs) == r.waiting) then Some submit.Full else None
+  refusal_in r = if r.stopped then Some submit.Stopped else if (free_of r == 0) && (len (queued_in r.jobs) == r.most_queued) then Some submit.Full else None
 
   -- how a job starts that is accepted: it runs where a permit is free, and else it is queued
   abbrev pub start_in : Record W → Start

@@ -35,9 +35,9 @@ pub record IsShut {W : Type 0} (s : Shutdown W) (w : Work) : Type 0 where
   pub over : s.receivers.number ≡ 0 → s.receivers.waiting.wakers ≡ []
 
 -- how many jobs there may be and how many there were
-pub record IsCounted (w : Work) (waiting next finished returned : ℕ) : Type 0 where
-  pub few : len w.queued ≤ waiting
-  pub fits : w.permits + waiting < 4294967295
+pub record IsCounted (w : Work) (most_queued next finished returned : ℕ) : Type 0 where
+  pub few : len w.queued ≤ most_queued
+  pub fits : w.permits + most_queued < 4294967295
   pub above : IsAbove w next
   pub sum : len w.running + len w.queued + finished + returned ≤ next
   pub last : next ≤ 18446744073709551615

@@ -53,7 +53,7 @@ in_state job state = record job { state = state }
 -- the jobs by number, and beside them what a service has
 pub record Record (W : Type 0) : Type 0 where
   pub permits : ℕ
-  pub waiting : ℕ
+  pub most_queued : ℕ
   pub capacity : ℕ
   pub next : ℕ
   pub jobs : Names Job
@@ -95,7 +95,7 @@ returned job = if is_queued job.state then in_state job Returned else job
 module _ {W : Type 0} where
   -- a service of so many permits, places in its queue and places for results, to which nothing was submitted
   abbrev pub new_record : ℕ → ℕ → ℕ → Record W
-  new_record permits waiting capacity = record { permits = permits; waiting = waiting; capacity = capacity; next = 0; jobs = empty; results = []; back = empty; stopped = false; waker = None; wakes = [] }
+  new_record permits most_queued capacity = record { permits = permits; most_queued = most_queued; capacity = capacity; next = 0; jobs = empty; results = []; back = empty; stopped = false; waker = None; wakes = [] }
 
   -- how many permits are free
   abbrev pub free_of : Record W → ℕ
@@ -172,7 +172,7 @@ module _ {W : Type 0} where
   abbrev pub kept_of : Record W → Service W
   kept_of r = record {
     work = record { permits = r.permits; queued = queued_in r.jobs; running = running_in r.jobs; back = r.back; stopped = r.stopped };
-    waiting = r.waiting;
+    most_queued = r.most_queued;
     capacity = r.capacity;
     next = r.next;
     results = r.results;

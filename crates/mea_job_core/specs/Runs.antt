@@ -36,7 +36,7 @@ module _ {W : Type 0} where
 
   -- a list of calls on a new service: the record that it leaves, the results in the order of the finishes, and those that were taken
   pub data History : Record W → List (ℕ × ℕ) → List (ℕ × ℕ) → Type 0 where
-    Begins : (permits waiting capacity : ℕ) → History (new_record permits waiting capacity) [] []
+    Begins : (permits most_queued capacity : ℕ) → History (new_record permits most_queued capacity) [] []
     Goes : (r r' : Record W) (finished taken finished' taken' : List (ℕ × ℕ)) → History r finished taken → Calls r r' finished' taken' → History r' (finished ++ finished') (taken ++ taken')
 
   -- no permit is free, or no job is queued

@@ -18,7 +18,7 @@ use Rattle.mea_job_core.specs.Work.{Submission, Work, work_code, new_work, free_
 -- jobs were finished and how many returned; the waker of `poll_end`, and the wakers that are ready
 pub record Service (W : Type 0) : Type 0 where
   pub work : Work
-  pub waiting : ℕ
+  pub most_queued : ℕ
   pub capacity : ℕ
   pub next : ℕ
   pub results : List (ℕ × ℕ)
@@ -32,8 +32,8 @@ abbrev pub service_code : {W : Type 0} → Coded W → Coded (Service W)
 service_code {W} w =
     code_by (Work × (ℕ × (ℕ × (ℕ × (List (ℕ × ℕ) × (ℕ × (ℕ × (Option W × List W))))))))
     (coded× work_code (coded× coded_ℕ (coded× coded_ℕ (coded× coded_ℕ (coded× (coded_list (coded× coded_ℕ coded_ℕ)) (coded× coded_ℕ (coded× coded_ℕ (coded× (coded_option w) (coded_list w)))))))))
-    (λ s. (s.work, (s.waiting, (s.capacity, (s.next, (s.results, (s.finished, (s.returned, (s.waker, s.wakes)))))))))
-    (λ p. record { work = p.0; waiting = p.1.0; capacity = p.1.1.0; next = p.1.1.1.0; results = p.1.1.1.1.0; finished = p.1.1.1.1.1.0; returned = p.1.1.1.1.1.1.0; waker = p.1.1.1.1.1.1.1.0; wakes = p.1.1.1.1.1.1.1.1 })
+    (λ s. (s.work, (s.most_queued, (s.capacity, (s.next, (s.results, (s.finished, (s.returned, (s.waker, s.wakes)))))))))
+    (λ p. record { work = p.0; most_queued = p.1.0; capacity = p.1.1.0; next = p.1.1.1.0; results = p.1.1.1.1.0; finished = p.1.1.1.1.1.0; returned = p.1.1.1.1.1.1.0; waker = p.1.1.1.1.1.1.1.0; wakes = p.1.1.1.1.1.1.1.1 })
     (λ _. refl)
 
 -- the first waker, if there is one
@@ -53,7 +53,7 @@ is_running s n = is_some (get s.work.running n)
 
 -- why a job is refused: the service was stopped, or no permit is free and as many jobs are queued as may be
 abbrev pub refusal_of : {W : Type 0} → Service W → Option SubmitError
-refusal_of s = if s.work.stopped then Some submit.Stopped else if (free_of s.work == 0) && (len s.work.queued == s.waiting) then Some submit.Full else None
+refusal_of s = if s.work.stopped then Some submit.Stopped else if (free_of s.work == 0) && (len s.work.queued == s.most_queued) then Some submit.Full else None
 
 -- and else for want of memory alone
 abbrev pub RefusedBy : Option SubmitError → SubmitError → Type 0
@@ -78,7 +78,7 @@ value_of (Some submission) = Ok submission.value
 module _ {W : Type 0} where
   -- a service of so many permits, places in its queue and places for results, to which nothing was submitted
   abbrev pub new_service : ℕ → ℕ → ℕ → Service W
-  new_service permits waiting capacity = record { work = new_work permits; waiting = waiting; capacity = capacity; next = 0; results = []; finished = 0; returned = 0; waker = None; wakes = [] }
+  new_service permits most_queued capacity = record { work = new_work permits; most_queued = most_queued; capacity = capacity; next = 0; results = []; finished = 0; returned = 0; waker = None; wakes = [] }
 
   -- a number was given
   abbrev pub given : Service W → ℕ → Service W

@@ -23,7 +23,7 @@ use std::marker::Model;
 pub struct JobCore<W> {
     work: Work,
     // How many jobs may be queued.
-    waiting: usize,
+    most_queued: usize,
     // The least number that was not given.
     next: u64,
     finished: u64,
@@ -47,7 +47,7 @@ impl<W> Model for JobCore<W> {
 
     ghost view = { λ c. record {
       work = c.work.seen;
-      waiting = c.waiting;
+      most_queued = c.most_queued;
       capacity = c.results.capacity;
       next = c.next;
       results = c.results.queued;
@@ -61,7 +61,7 @@ impl<W> Model for JobCore<W> {
       quiet : IsQuiet c.results;
       shut : IsShut c.shutdown c.work.seen;
       only : IsOnly c.shutdown.receivers.waiting c.end;
-      counted : IsCounted c.work.seen c.waiting c.next c.finished c.returned;
+      counted : IsCounted c.work.seen c.most_queued c.next c.finished c.returned;
       asked : c.work.asked ≤ c.next;
     } };
 }
@@ -71,7 +71,7 @@ impl<W: Drop> Drop for JobCore<W> {
     fn drop(self) {
         let JobCore {
             work: _,
-            waiting: _,
+            most_queued: _,
             next: _,
             finished: _,
             returned: _,
@@ -96,12 +96,12 @@ impl<W: Drop> JobCore<W> {
     pub fn new(
         alloc: Global,
         permits: usize,
-        waiting: usize,
+        most_queued: usize,
         results: usize,
     ) -> Result<Self, NoMemory>
-        requires some { (0 < permits) × (0 < waiting) × (0 < results) }
-        requires few { permits + waiting < 4294967295 }
-        ensures { IfOk result (λ service. service ≡ new_service permits waiting results) }
+        requires some { (0 < permits) × (0 < most_queued) × (0 < results) }
+        requires few { permits + most_queued < 4294967295 }
+        ensures { IfOk result (λ service. service ≡ new_service permits most_queued results) }
     {
         let results = BoundedCore::new(alloc, results)?;
         let work = Work::new(alloc, permits);
@@ -109,7 +109,7 @@ impl<W: Drop> JobCore<W> {
         let end = GroupWait::new();
         Ok(JobCore {
             work,
-            waiting,
+            most_queued,
             next: 0,
             finished: 0,
             returned: 0,
@@ -130,7 +130,7 @@ impl<W: Drop> JobCore<W> {
         if self.work.is_stopped() {
             return Err(SubmitError::Stopped);
         }
-        if self.work.free() == 0 && self.work.queued() == self.waiting {
+        if self.work.free() == 0 && self.work.queued() == self.most_queued {
             return Err(SubmitError::Full);
         }
         let Ok(start) = self.work.accept(number, key, value) else {

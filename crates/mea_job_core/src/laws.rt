@@ -10,8 +10,8 @@ ghost use Rattle.mea_job_core.specs.Service.{Service, new_service, after_finish,
 /// A core stands for the record of all jobs: after every list of calls it keeps what it keeps of the record, and its next
 /// answer is the one that the record has. Each call gives a number that is above those before it, if it gives one.
 pub fn a_core_stands_for_the_record<W>()
-    ensures calls { (permits waiting results : ℕ) (calls : List (Call W)) → AreNewFrom 0 calls
-        → kept_of (all_called (new_record permits waiting results) calls) ≡ all_called_on (new_service permits waiting results) calls }
+    ensures calls { (permits most_queued results : ℕ) (calls : List (Call W)) → AreNewFrom 0 calls
+        → kept_of (all_called (new_record permits most_queued results) calls) ≡ all_called_on (new_service permits most_queued results) calls }
     ensures call { (r : Record W) (call : Call W) → IsNewIn r (number_given call) → kept_of (called r call) ≡ called_on (kept_of r) call }
     ensures answer { (r : Record W) (call : Call W) → answer_in r call ≡ answer_of (kept_of r) call }
 {}

@@ -24,7 +24,7 @@ type Fair = FairCore<u64, u64, BuildHasherDefault<FoldHasher>>;
 pub struct Work {
     permits: usize,
     // How many jobs run.
-    count: usize,
+    running_count: usize,
     // Once it was stopped no job starts, and the admission is a new one.
     stopped: bool,
     fair: Fair,
@@ -49,10 +49,10 @@ impl Model for Work {
 
     ghost invariant = { λ w. record {
       some : 0 < w.permits;
-      counted : w.count ≡ len w.running.things;
-      few : w.count ≤ w.permits;
+      counted : w.running_count ≡ len w.running.things;
+      few : w.running_count ≤ w.permits;
       room : w.stopped ≡ false → len w.queued ≤ w.running.spare;
-      free : w.stopped ≡ false → w.fair.free + w.count ≡ w.permits;
+      free : w.stopped ≡ false → w.fair.free + w.running_count ≡ w.permits;
       fair : w.stopped ≡ false → IsFair w.fair w.queued w.running.things;
     } };
 }
@@ -133,7 +133,7 @@ impl Work {
         let running = Roomy::new(alloc);
         Work {
             permits,
-            count: 0,
+            running_count: 0,
             stopped: false,
             fair,
             queued,
@@ -147,7 +147,7 @@ impl Work {
         ensures is { result ≡ free_of self.now.seen }
         ensures few { map.len self.now.seen.running ≤ self.now.seen.permits }
     {
-        self.permits - self.count
+        self.permits - self.running_count
     }
 
     // How many jobs are queued.
@@ -165,7 +165,7 @@ impl Work {
         ensures is { result ≡ map.len self.now.seen.running }
         ensures few { map.len self.now.seen.running ≤ self.now.seen.permits }
     {
-        self.count
+        self.running_count
     }
 
     pub(crate) fn is_stopped(&self) -> bool
@@ -228,7 +228,7 @@ impl Work {
             unreachable!();
         }
         self.running.insert(number, key);
-        self.count += 1;
+        self.running_count += 1;
         Ok(())
     }
 
@@ -266,13 +266,13 @@ impl Work {
     {
         if self.stopped {
             let _ = self.running.remove(number);
-            self.count -= 1;
+            self.running_count -= 1;
             return None;
         }
         match end_job(&mut self.fair, &mut self.queued, &mut self.running, number) {
             Some(next) => Some(next),
             None => {
-                self.count -= 1;
+                self.running_count -= 1;
                 None
             }
         }

@@ -14,7 +14,7 @@ use Rattle.mea_job_core.proofs.Settles.{settles}
 use Rattle.mea_job_run.specs.declared.event.JobEvent.{JobEvent}
 use Rattle.mea_job_run.specs.declared.event.JobEvent.TheVariants.{Job, Finish, Recall, Take, Back, Poll, Count}
 use Rattle.mea_job_run.specs.declared.event.JobEvent.TheVariants as event
-use Rattle.mea_job_run.specs.Rules.{call_of, after_call, job_rules, core_rules, jobs_told}
+use Rattle.mea_job_run.specs.Machine.{call_of, after_call, job_rules, core_rules, jobs_told}
 use Rattle.mea_job_run.specs.Runs.{IsOrderly, AreOrderly}
 use Rattle.mea_job_run.specs.Text.{reply_text}
 
@@ -67,12 +67,12 @@ orderly r n e kept =
       settled = settles _ after.finished after.taken after.history;
     }
 
-begins : (permits waiting results : ℕ) → Keeps (new_record permits waiting results) 0
-begins permits waiting results = record { was = record { finished = []; taken = []; history = Begins permits waiting results }; next = omega arith }
+begins : (permits most_queued results : ℕ) → Keeps (new_record permits most_queued results) 0
+begins permits most_queued results = record { was = record { finished = []; taken = []; history = Begins permits most_queued results }; next = omega arith }
 
-pub are_orderly : (permits waiting results : ℕ) (script : List ℕ) → AreOrderly permits waiting results script
+pub are_orderly : (permits most_queued results : ℕ) (script : List ℕ) → AreOrderly permits most_queued results script
 unfolding job_rules
-are_orderly permits waiting results script = of_script (λ r n (e : JobEvent) r'. IsOrderly r r') job_rules Keeps orderly keeps (new_record permits waiting results) (begins permits waiting results) script
+are_orderly permits most_queued results script = of_script (λ r n (e : JobEvent) r'. IsOrderly r r') job_rules Keeps orderly keeps (new_record permits most_queued results) (begins permits most_queued results) script
 
 -- ---- the two tell the same
 alike : AreAlike job_rules core_rules kept_of Keeps
@@ -89,9 +89,9 @@ alike = record {
     is_new : (r : Record ℕ) (n : ℕ) (e : JobEvent) → Keeps r n → IsNewIn r (number_given (call_of n e))
     is_new r n e kept = new_in r (number_given (call_of n e)) (below r kept.was.finished kept.was.taken kept.was.history) (new_for n e r.next kept.next)
 
-pub told_same : (permits waiting results : ℕ) (s : Service ℕ) → s ≡ new_service permits waiting results → (script : List ℕ) → told_by core_rules s script ≡ jobs_told permits waiting results script
-told_same permits waiting results s fresh script =
-    sym (same_told job_rules core_rules kept_of Keeps alike (new_record permits waiting results) (begins permits waiting results) script ∙ ap (λ t. told_by core_rules t script) (kept_new permits waiting results ∙ sym fresh))
+pub told_same : (permits most_queued results : ℕ) (s : Service ℕ) → s ≡ new_service permits most_queued results → (script : List ℕ) → told_by core_rules s script ≡ jobs_told permits most_queued results script
+told_same permits most_queued results s fresh script =
+    sym (same_told job_rules core_rules kept_of Keeps alike (new_record permits most_queued results) (begins permits most_queued results) script ∙ ap (λ t. told_by core_rules t script) (kept_new permits most_queued results ∙ sym fresh))
 
 -- no event has a cause for refusal
 pub no_cause : (stop : Stop) → IsCause core_rules stop → ⊥

@@ -1,4 +1,4 @@
 pub mod Lines
 pub mod Text
-pub mod Rules
+pub mod Machine
 pub mod Runs

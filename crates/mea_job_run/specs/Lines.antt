@@ -7,6 +7,7 @@ use Rattle.mea_text.specs.Tables.{Line, alone, one, two, of_table}
 use Rattle.mea_job_run.specs.declared.event.JobEvent.{JobEvent}
 use Rattle.mea_job_run.specs.declared.event.JobEvent.TheVariants.{Job, Finish, Recall, Take, Back, Stop, Poll, Count}
 
+-- each word with its numbers
 unfoldable pub job_lines : List (Line JobEvent)
 job_lines =
     two (codes "job") Job ∷

@@ -7,7 +7,7 @@ use Rattle.mea_script.specs.Events.{HoldsOfScript}
 use Rattle.mea_job_core.specs.Record.{Record, new_record}
 use Rattle.mea_job_core.specs.Runs.{Becomes, History, IsSettled}
 use Rattle.mea_job_run.specs.declared.event.JobEvent.{JobEvent}
-use Rattle.mea_job_run.specs.Rules.{job_rules}
+use Rattle.mea_job_run.specs.Machine.{job_rules}
 
 -- a number of the words
 abbrev pub IsInRange : ℕ → Type 0
@@ -15,10 +15,11 @@ IsInRange n = (1 ≤ n) × (n ≤ 1000000)
 
 -- the word `jobs` with the permits, the queued jobs and the results that may be, each from 1 to 1000000
 abbrev pub IsJobs : List (List ℕ) → ℕ → ℕ → ℕ → Type 0
-IsJobs words permits waiting results = IsSpelled (codes "jobs") words (Three permits waiting results) × IsInRange permits × IsInRange waiting × IsInRange results
+IsJobs words permits most_queued results = IsSpelled (codes "jobs") words (Three permits most_queued results) × IsInRange permits × IsInRange most_queued × IsInRange results
 
+-- the words are those of some service
 abbrev pub IsCommand : List (List ℕ) → Type 0
-IsCommand words = (permits : ℕ) × (waiting : ℕ) × (results : ℕ) × IsJobs words permits waiting results
+IsCommand words = (permits : ℕ) × (most_queued : ℕ) × (results : ℕ) × IsJobs words permits most_queued results
 
 -- what an event leaves: each job has one state, and goes from queued to running or returned, from running to finished, and by no
 -- other way; results are taken in the order of the finishes, each once; no permit is free while a job is queued
@@ -32,4 +33,4 @@ pub record IsOrderly (r r' : Record ℕ) : Type 0 where
 
 -- so it is at each event of a script
 abbrev pub AreOrderly : ℕ → ℕ → ℕ → List ℕ → Type 0
-AreOrderly permits waiting results script = HoldsOfScript (λ r n (e : JobEvent) r'. IsOrderly r r') job_rules (new_record permits waiting results) script
+AreOrderly permits most_queued results script = HoldsOfScript (λ r n (e : JobEvent) r'. IsOrderly r r') job_rules (new_record permits most_queued results) script

@@ -30,11 +30,13 @@ submit_text (Err submit.NoMemory) = []
 abbrev pub done_text : Option ℕ → Option ℕ → List ℕ
 done_text started woken = codes "done" ++ said (codes " start") started ++ said (codes " wake") woken ++ codes "\n"
 
+-- who started and who was woken, or why the job is not finished
 abbrev pub finish_text : Result (Option ℕ) FinishError → Option ℕ → List ℕ
 finish_text (Ok started) woken = done_text started woken
 finish_text (Err finish.Full) woken = codes "full\n"
 finish_text (Err finish.Unknown) woken = codes "unknown\n"
 
+-- the value of the job, or that it is unknown
 abbrev pub recall_text : Result ℕ UnknownJob → List ℕ
 recall_text (Ok value) = counted_line (codes "value") value
 recall_text (Err _) = codes "unknown\n"
@@ -44,10 +46,12 @@ abbrev pub hand_text : Option (ℕ × ℕ) → List ℕ
 hand_text None = codes "none\n"
 hand_text (Some job) = codes "job" ++ number_text job.0 ++ number_text job.1 ++ codes "\n"
 
+-- whether the end has come
 abbrev pub poll_text : Poll (Unit {0}) → List ℕ
 poll_text (Ready _) = codes "ready\n"
 poll_text Pending = codes "pending\n"
 
+-- the five counts
 abbrev pub counts_text : Counts → List ℕ
 counts_text counts =
     codes "count" ++ number_text counts.accepted ++ number_text counts.running ++ number_text counts.queued ++ number_text counts.finished ++ number_text counts.returned ++ codes "\n"

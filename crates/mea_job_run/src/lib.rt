@@ -4,11 +4,11 @@
 
 mod event;
 mod lines;
+mod machine;
 mod replies;
 mod running;
-mod service;
 
 pub use event::JobEvent;
 pub use lines::event_of_line;
+pub use machine::JobMachine;
 pub use running::run_jobs;
-pub use service::JobService;

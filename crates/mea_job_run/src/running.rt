@@ -4,10 +4,10 @@ ghost use Rattle.mea_io.specs.Bytes.{Rose};
 ghost use Rattle.mea_script.specs.Runs.{IsFault, Answers, Tells, IsTakenTo, line_of};
 ghost use Rattle.mea_script.specs.Told.{told_by};
 ghost use Rattle.mea_job_core.specs.Service.{new_service};
-ghost use Rattle.mea_job_run.specs.Rules.{jobs_told, core_rules};
+ghost use Rattle.mea_job_run.specs.Machine.{jobs_told, core_rules};
 ghost use Rattle.mea_job_run.specs.Runs.{IsInRange, IsJobs, IsCommand, AreOrderly};
 
-use crate::service::JobService;
+use crate::machine::JobMachine;
 use mea_io::{Sink, Source};
 use mea_job_core::JobCore;
 use mea_script::{Status, play_script};
@@ -36,48 +36,55 @@ pub fn run_jobs<S: Source, K: Sink>(
     ensures stopped { (at : ℕ) (cause : Why) → result ≢ Status.Stopped at cause }
 
     // Where the source tells its bytes, and where the sink tells them too.
-    ensures status { (permits waiting results : ℕ) (script : List ℕ) → IsJobs (map string_bytes words.now) permits waiting results → S.left source.old ≡ Some script
-        → IsFault result ⊎ (result ≡ (jobs_told permits waiting results script).status) }
-    ensures text { (permits waiting results : ℕ) (script before : List ℕ) → IsJobs (map string_bytes words.now) permits waiting results → S.left source.old ≡ Some script
-        → K.taken sink.old ≡ Some before → Tells (jobs_told permits waiting results script) result before (K.taken sink.new) }
+    ensures status { (permits most_queued results : ℕ) (script : List ℕ) → IsJobs (map string_bytes words.now) permits most_queued results → S.left source.old ≡ Some script
+        → IsFault result ⊎ (result ≡ (jobs_told permits most_queued results script).status) }
+    ensures text { (permits most_queued results : ℕ) (script before : List ℕ) → IsJobs (map string_bytes words.now) permits most_queued results → S.left source.old ≡ Some script
+        → K.taken sink.old ≡ Some before → Tells (jobs_told permits most_queued results script) result before (K.taken sink.new) }
 
     // The same where no read and no write failed.
-    ensures whole { (permits waiting results : ℕ) (script before : List ℕ) → IsJobs (map string_bytes words.now) permits waiting results → S.left source.old ≡ Some script
+    ensures whole { (permits most_queued results : ℕ) (script before : List ℕ) → IsJobs (map string_bytes words.now) permits most_queued results → S.left source.old ≡ Some script
         → K.taken sink.old ≡ Some before → ¬ Rose (S.faults source.old) (S.faults source.new) → ¬ Rose (K.faults sink.old) (K.faults sink.new)
-        → (result ≡ Status.NoMemory) ⊎ Answers (jobs_told permits waiting results script) result before (K.taken sink.new) }
+        → (result ≡ Status.NoMemory) ⊎ Answers (jobs_told permits most_queued results script) result before (K.taken sink.new) }
 
     // At every event of the script that is played, whose replies its text tells.
-    ensures orderly { (permits waiting results : ℕ) (script : List ℕ) → IsJobs (map string_bytes words.now) permits waiting results → S.left source.old ≡ Some script
-        → AreOrderly permits waiting results script }
+    ensures orderly { (permits most_queued results : ℕ) (script : List ℕ) → IsJobs (map string_bytes words.now) permits most_queued results → S.left source.old ≡ Some script
+        → AreOrderly permits most_queued results script }
 
     // Nothing more is taken after the line that ends the text.
     ensures taken_to { (script : List ℕ) (n : ℕ) → IsCommand (map string_bytes words.now) → S.left source.old ≡ Some script → line_of result ≡ Some n
         → (left : List ℕ) × (S.left source.new ≡ Some left) × IsTakenTo n script left }
 {
     match numbers_of_jobs(words) {
-        Some((permits, waiting, results)) => play(alloc, permits, waiting, results, source, sink),
+        Some((permits, most_queued, results)) => play(
+            alloc,
+            permits,
+            most_queued,
+            results,
+            source,
+            sink,
+        ),
         None => Status::Usage,
     }
 }
 
 /// The three numbers of `jobs`, where the words are those of it.
 fn numbers_of_jobs(words: &[String]) -> Option<(usize, usize, usize)>
-    ensures jobs { (permits waiting results : ℕ) → (result ≡ Some (permits, waiting, results)) ↔ IsJobs (map string_bytes words.now) permits waiting results }
+    ensures jobs { (permits most_queued results : ℕ) → (result ≡ Some (permits, most_queued, results)) ↔ IsJobs (map string_bytes words.now) permits most_queued results }
 {
     match command_numbers(b"jobs", words)? {
-        Numbers::Three(permits, waiting, results) => in_range(permits, waiting, results),
+        Numbers::Three(permits, most_queued, results) => in_range(permits, most_queued, results),
         _ => None,
     }
 }
 
-fn in_range(permits: u64, waiting: u64, results: u64) -> Option<(usize, usize, usize)>
-    ensures range { IfSome result (λ r. (r ≡ (permits, waiting, results)) × IsInRange permits × IsInRange waiting × IsInRange results) }
-    ensures all { IsInRange permits × IsInRange waiting × IsInRange results → result ≡ Some (permits, waiting, results) }
+fn in_range(permits: u64, most_queued: u64, results: u64) -> Option<(usize, usize, usize)>
+    ensures range { IfSome result (λ r. (r ≡ (permits, most_queued, results)) × IsInRange permits × IsInRange most_queued × IsInRange results) }
+    ensures all { IsInRange permits × IsInRange most_queued × IsInRange results → result ≡ Some (permits, most_queued, results) }
 {
-    if !is_in_range(permits) || !is_in_range(waiting) || !is_in_range(results) {
+    if !is_in_range(permits) || !is_in_range(most_queued) || !is_in_range(results) {
         return None;
     }
-    Some((permits as usize, waiting as usize, results as usize))
+    Some((permits as usize, most_queued as usize, results as usize))
 }
 
 fn is_in_range(number: u64) -> bool
@@ -90,27 +97,27 @@ fn is_in_range(number: u64) -> bool
 fn play<S: Source, K: Sink>(
     alloc: Global,
     permits: usize,
-    waiting: usize,
+    most_queued: usize,
     results: usize,
     source: &mut S,
     sink: &mut K,
 ) -> Status
-    requires { IsInRange permits × IsInRange waiting × IsInRange results }
+    requires { IsInRange permits × IsInRange most_queued × IsInRange results }
     ensures usage { result ≢ Status.Usage }
     ensures read_fault { result ≡ Status.ReadFault → Rose (S.faults source.old) (S.faults source.new) }
     ensures write_fault { result ≡ Status.WriteFault → Rose (K.faults sink.old) (K.faults sink.new) }
     ensures stopped { (at : ℕ) (cause : Why) → result ≢ Status.Stopped at cause }
-    ensures status { (script : List ℕ) → S.left source.old ≡ Some script → IsFault result ⊎ (result ≡ (jobs_told permits waiting results script).status) }
+    ensures status { (script : List ℕ) → S.left source.old ≡ Some script → IsFault result ⊎ (result ≡ (jobs_told permits most_queued results script).status) }
     ensures text { (script before : List ℕ) → S.left source.old ≡ Some script → K.taken sink.old ≡ Some before
-        → Tells (jobs_told permits waiting results script) result before (K.taken sink.new) }
+        → Tells (jobs_told permits most_queued results script) result before (K.taken sink.new) }
     ensures whole { (script before : List ℕ) → S.left source.old ≡ Some script → K.taken sink.old ≡ Some before
         → ¬ Rose (S.faults source.old) (S.faults source.new) → ¬ Rose (K.faults sink.old) (K.faults sink.new)
-        → (result ≡ Status.NoMemory) ⊎ Answers (jobs_told permits waiting results script) result before (K.taken sink.new) }
+        → (result ≡ Status.NoMemory) ⊎ Answers (jobs_told permits most_queued results script) result before (K.taken sink.new) }
     ensures taken_to { (script : List ℕ) (n : ℕ) → S.left source.old ≡ Some script → line_of result ≡ Some n
         → (left : List ℕ) × (S.left source.new ≡ Some left) × IsTakenTo n script left }
 {
-    let Ok(core) = JobCore::new(alloc, permits, waiting, results) else {
+    let Ok(core) = JobCore::new(alloc, permits, most_queued, results) else {
         return Status::NoMemory;
     };
-    play_script(alloc, JobService { core }, source, sink)
+    play_script(alloc, JobMachine { core }, source, sink)
 }

@@ -4,4 +4,3 @@ pub mod Tallies
 pub mod Singles
 pub mod Wakes
 pub mod Events
-pub mod Steps

@@ -1,13 +1,14 @@
 -- the lines of a script that is shown
-use Rattle.std.proofs.Common.{◌≡◌, ℕ, ◌+◌, ◌<◌, ◌≤◌, ◌++◌, Bool, true, false, List, [], ◌∷◌, Some, None, length, take, min, nat_lt, ap, sym, ◌∙◌, refl, arith, length-take, length-append, append-nil, append_assoc}
+use Rattle.std.proofs.Common.{◌≡◌, ℕ, ◌+◌, ◌<◌, ◌≤◌, ◌++◌, Bool, true, false, List, [], ◌∷◌, Some, None, length, take, min, nat_lt, ap, sym, ◌∙◌, refl, arith, length-take, append-nil, append_assoc}
 use Rattle.std.proofs.lemmas.List.{take-take, take_min, take_all}
 use Rattle.std.proofs.lemmas.Bool.Decides.{nat_tests}
 use Rattle.std.proofs.Math.Seq.{take-append_seam}
 use Rattle.mea_text.specs.Words.{cut}
 use Rattle.mea_lines.specs.Lines.{event_of}
-use Rattle.mea_script.specs.Lines.{limit, is_long, lines_in, lines_of}
+use Rattle.mea_script.specs.Lines.{limit, is_long, lines_in}
 use Rattle.mea_script.proofs.Lines.{lines_last, lines_cut, lines_none}
 use Rattle.mea_script.proofs.Unended.{lines_here, cut_joins, cut_nothing}
+use Rattle.mea_marks.specs.declared.ending.Ending.{Ending}
 use Rattle.mea_marks.specs.declared.ending.Ending.TheVariants.{Whole, Long}
 use Rattle.mea_marks.specs.Marks.{Board, empty_board}
 use Rattle.mea_marks.specs.Script.{Steps, Shown, GoesOn, EndsAt, ended, shown_from, shown_of}
@@ -18,9 +19,9 @@ first_line was_cut rest line after is =
     let parts = cut_joins rest line after is in
     ap (lines_in was_cut) parts.0 ∙ lines_here was_cut line after parts.1
 
--- a cut leaves less
-pub cut_shorter : (rest line after : List ℕ) → Some (line, after) ≡ cut 10 rest → length after < length rest
-cut_shorter rest line after is = let joined = (cut_joins rest line after is).0 in let sizes = ap length joined in omega (arith, sizes, length-append line (10 ∷ after))
+-- what is shown is the same where its parts are
+pub ended_alike : (b c : Board) (x y : Ending) (n m : ℕ) → b ≡ c → x ≡ y → n ≡ m → ended b x n ≡ ended c y m
+ended_alike b c x y n m board ending lines = λ i. ended (board i) (ending i) (lines i)
 
 module _ {State : Type 0} (steps : Steps State) (s t : State) (b c : Board) (n m : ℕ) (rest : List ℕ) where
   -- the next line, after which the script goes on, and one at which it ends

@@ -1,6 +1,5 @@
 -- what the rows tell of each thing
-use Rattle.std.proofs.Common.{◌≡◌, ℕ, ◌==◌, ◌&&◌, ◌||◌, ◌++◌, Bool, true, false, List, [], ◌∷◌, map, Option, Some, None, refl, ap, sym, ◌∙◌, if◌then◌else◌}
-use Rattle.std.specs.List.{list_any}
+use Rattle.std.proofs.Common.{◌≡◌, ℕ, ◌==◌, ◌&&◌, ◌||◌, ◌++◌, true, false, List, [], ◌∷◌, Option, Some, None, refl, ap, sym, ◌∙◌, if◌then◌else◌}
 use Rattle.std.specs.Option.{option_map}
 use Rattle.std.proofs.lemmas.Bool.{eqb-true, eq-eqb, and_parts}
 use Rattle.mea_family.specs.declared.answer.Answer.{Answer}
@@ -13,7 +12,7 @@ use Rattle.mea_marks.specs.declared.thing.Thing.{Thing}
 use Rattle.mea_marks.specs.Deeds.{deed_of}
 use Rattle.mea_marks.specs.Laws.{Told, board_told, made_stage, turned_stage, stage_before, stage_after, stage_of, stage_in}
 use Rattle.mea_marks.specs.Marks.{board_after, rows_before, rows_after, polled_stage, thing_of}
-use Rattle.mea_marks.specs.Rows.{same, is_of, staged, row_of, with_stage, has_row, put_stage, add_row}
+use Rattle.mea_marks.specs.Rows.{same, is_of, row_of, with_stage, has_row, put_stage, add_row}
 use Rattle.mea_marks.specs.Sorts.{code_of, is_lasting}
 
 -- ---- things that are one

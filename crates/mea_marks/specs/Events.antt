@@ -6,7 +6,7 @@ use Rattle.mea_lines.specs.Lines.{event_of}
 use Rattle.mea_script.specs.Lines.{lines_of}
 use Rattle.mea_marks.specs.declared.thing.Thing.{Thing}
 use Rattle.mea_marks.specs.Laws.{Told, board_told, stage_of, stage_in}
-use Rattle.mea_marks.specs.Script.{Steps, Shown, is_great, shown_of}
+use Rattle.mea_marks.specs.Script.{Steps, is_great, shown_of}
 
 module _ {State : Type 0} (steps : Steps State) where
   -- event number n, as it is told
@@ -19,10 +19,12 @@ module _ {State : Type 0} (steps : Steps State) where
   told_at (Some stop) ts n t rest = ts
   told_at None ts n t rest = if is_great (board_told (t ∷ ts)) (n + 1) then t ∷ ts else rest
 
+  -- line number n stands for no event, or for one after which the rest is told
   abbrev pub told_line : State → List Told → ℕ → Option Event → (State → List Told → List Told) → List Told
   told_line s ts n None rest = ts
   told_line s ts n (Some e) rest = told_at (steps.cause s e) ts n (told s n e) (rest (steps.next s n e) (told s n e ∷ ts))
 
+  -- after the events that were told, those of these lines from this state on
   abbrev pub told_from : State → List Told → ℕ → List (List ℕ) → List Told
   told_from s ts n [] = ts
   told_from s ts n (line ∷ lines) = told_line s ts n (event_of line) (λ t us. told_from t us (n + 1) lines)

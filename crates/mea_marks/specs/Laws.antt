@@ -1,5 +1,5 @@
 -- how far a thing has come, by what was told of events; and what the rows tell of it
-use Rattle.std.specs.Prelude.{ℕ, ◌≡◌, Bool, List, [], ◌∷◌, Option, Some, None, if◌then◌else◌}
+use Rattle.std.specs.Prelude.{ℕ, Bool, List, [], ◌∷◌, Option, Some, None, if◌then◌else◌}
 use Rattle.std.specs.Option.{option_map}
 use Rattle.mea_family.specs.declared.answer.Answer.{Answer}
 use Rattle.mea_events.specs.declared.event.Event.{Event}

@@ -67,6 +67,7 @@ abbrev pub arrow_at : ℕ → List ℕ → Thing → Stage → List Mark
 arrow_at n ws x (stages.Waits w) = if is_woken w ws then marks.Arrow n w x ∷ [] else []
 arrow_at n ws x _ = []
 
+-- the same of a row
 abbrev pub arrow_to : ℕ → List ℕ → Row → List Mark
 arrow_to n ws r = arrow_at n ws r.thing r.stage
 
@@ -89,9 +90,11 @@ pub record Board : Type 0 where
   pub rows : List Row
   pub marks : List Mark
 
+-- no row and no mark
 abbrev pub empty_board : Board
 empty_board = record { rows = []; marks = [] }
 
+-- a board after event n, which was answered so and made these wakers ready
 unfoldable pub board_after : Board → ℕ → Event → Answer → List ℕ → Board
 board_after b n e a ws = record {
   rows = rows_after n (deed_of e) a (rows_before n (deed_of e) b.rows);

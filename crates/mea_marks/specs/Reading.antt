@@ -1,5 +1,5 @@
 -- the reading of a script
-use Rattle.std.specs.Prelude.{ℕ, ◌≡◌, ◌++◌, Bool, true, false, List, [], Option, Some}
+use Rattle.std.specs.Prelude.{ℕ, ◌≡◌, ◌++◌, Bool, false, List, [], Option, Some}
 
 -- of what was left, these bytes were appended; where there were none, nothing was left
 pub record TookPiece (left : Option (List ℕ)) (rest : List ℕ) (more : Bool) (old new : List ℕ) : Type 0 where

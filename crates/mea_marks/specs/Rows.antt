@@ -1,9 +1,9 @@
 -- the rows of a picture
-use Rattle.std.specs.Prelude.{ℕ, ◌==◌, ◌&&◌, ◌++◌, Bool, true, false, List, [], ◌∷◌, map, if◌then◌else◌}
+use Rattle.std.specs.Prelude.{ℕ, ◌==◌, ◌&&◌, ◌++◌, Bool, false, List, [], ◌∷◌, map, if◌then◌else◌}
 use Rattle.std.specs.List.{list_any}
 use Rattle.mea_marks.specs.declared.row.Row.{Row}
 use Rattle.mea_marks.specs.declared.row.Stage.{Stage}
-use Rattle.mea_marks.specs.declared.row.Stage.TheVariants.{Made, Waits, Rests, Ended}
+use Rattle.mea_marks.specs.declared.row.Stage.TheVariants.{Made, Waits}
 use Rattle.mea_marks.specs.declared.thing.Thing.{Thing}
 use Rattle.mea_marks.specs.Sorts.{code_of}
 
@@ -20,9 +20,11 @@ abbrev pub waits_at : ℕ → Stage → Bool
 waits_at w (Waits v) = v == w
 waits_at w _ = false
 
+-- the thing of a row waits with this waker
 abbrev pub waits_with : ℕ → Row → Bool
 waits_with w r = waits_at w r.stage
 
+-- the row of this thing at this stage
 abbrev pub row_of : Thing → Stage → Row
 row_of x g = record { thing = x; stage = g }
 
@@ -30,9 +32,11 @@ row_of x g = record { thing = x; stage = g }
 abbrev pub staged : Thing → Stage → Row → Row
 staged x g r = if is_of x r then row_of x g else r
 
+-- the same of each row
 abbrev pub with_stage : Thing → Stage → List Row → List Row
 with_stage x g rows = map (staged x g) rows
 
+-- this thing has a row
 abbrev pub has_row : Thing → List Row → Bool
 has_row x rows = list_any (is_of x) rows
 

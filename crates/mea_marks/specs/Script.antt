@@ -1,5 +1,5 @@
 -- what is shown of a script: line by line, on any hall
-use Rattle.std.specs.Prelude.{ℕ, ◌≡◌, ◌+◌, ◌++◌, ◌||◌, Bool, true, false, List, [], ◌∷◌, Option, Some, None, length, map, nat_lt, if◌then◌else◌}
+use Rattle.std.specs.Prelude.{ℕ, ◌≡◌, ◌+◌, ◌++◌, ◌||◌, Bool, List, [], ◌∷◌, Option, Some, None, length, map, nat_lt, if◌then◌else◌}
 use Rattle.mea_family.specs.declared.answer.Answer.{Answer}
 use Rattle.mea_family.specs.declared.stop.Stop.{Stop}
 use Rattle.mea_events.specs.declared.event.Event.{Event}
@@ -25,6 +25,7 @@ pub record Shown : Type 0 where
   pub ending : Ending
   pub lines : ℕ
 
+-- a script that ended so after n lines, with this board
 abbrev pub ended : Board → Ending → ℕ → Shown
 ended b ending n = record { board = b; ending = ending; lines = n }
 
@@ -48,6 +49,7 @@ shown_line steps s b n (Some e) rest =
     let after = board_after b n e (steps.reply s n e).0 (steps.reply s n e).1 in
     shown_at (steps.cause s e) b n after (rest (steps.next s n e) after)
 
+-- after the last line, of n: where the script is too long, or at its end
 abbrev pub shown_end : Bool → Board → ℕ → Shown
 shown_end long b n = ended b (if long then Long else Whole) n
 
@@ -62,6 +64,7 @@ shown_of steps s script = shown_from steps (is_long script) s empty_board 0 (lin
 
 -- ---- its marks
 
+-- the mark of a row
 abbrev pub row_mark : Row → Mark
 row_mark r = marks.Row r.thing r.stage
 

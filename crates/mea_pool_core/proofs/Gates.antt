@@ -4,11 +4,11 @@ use Rattle.std.specs.Prelude.{IsSome}
 use Rattle.std.specs.Ordering.{nat_cmp}
 use Rattle.std.specs.FinMap as map
 use Rattle.std.specs.FinMap.{get-empty}
-use Rattle.mea_base.specs.declared.turn.Turn.TheVariants.{Ready, Pending}
+use Rattle.mea_base.specs.declared.turn.Turn.TheVariants.{Ready}
 use Rattle.mea_base.proofs.Maps.{value_in}
 use Rattle.mea_sem_core.specs.Core.{Core}
 use Rattle.mea_sem_core.specs.Calls.{given_back}
-use Rattle.mea_lock_core.specs.Condvar.{Condvar, waker_under, with_waker, without_wait, first_notified}
+use Rattle.mea_lock_core.specs.Condvar.{Condvar, waker_under, without_wait, first_notified}
 use Rattle.mea_lock_core.specs.CondWaits.{PollsListed, EndsListed}
 use Rattle.mea_lock_core.specs.Lock.{Lock, permits_of}
 use Rattle.mea_lock_core.specs.declared.cond_wait.CondWait.{CondWait}
@@ -49,26 +49,6 @@ module _ {W : Type 0} where
         held = takes.1;
       }
 
-  -- one that is pending: the gate is shut, and the wait has the new waker
-  pub record IsBefore (l l' : Lock Bool W) (s s' : Condvar W) (n : ℕ) (w : W) : Type 0 where
-    pub shut : l.value ≡ false
-    pub waits : s' ≡ record s { waiting = with_waker s.waiting n w }
-    pub lock : l' ≡ l
-
-  pub before : (l l' : Lock Bool W) (s s' : Condvar W) (n : ℕ) (w : W) (c : CondWait) → IsGate l s → IsListed s.waiting s.notified n → PollsListed s l n w (Ok Pending) s' l' c → IsBefore l l' s s' n w
-  before l l' s s' n w c is (inl waits) polls =
-      let h = polls.0 waits in
-      record {
-        shut = by_flag l.value (λ opens. absurd (nobody_waits s.waiting n (is.left opens) waits)) (λ shut. shut);
-        waits = h.1;
-        lock = h.2;
-      }
-  before l l' s s' n w c is (inr told) polls =
-      let by = value_in (map.get s.notified n) told in
-      let asks = polls.1 by.0 by.1 in
-      let takes = asks.2.1.0 (free_lock l s is) in
-      absurd (let no = takes.0 in cc)
-
   -- the lock is given back
   given_free : given_back {W = W} (record (permits_of 1) { free = 0 }) 1 ≡ permits_of 1
   given_free = refl
@@ -90,18 +70,6 @@ module _ {W : Type 0} where
   gate_through l l' l'' s s' n thr back =
       let value : l''.value ≡ l.value = ap (λ (x : Lock Bool W). x.value) back ∙ thr.value in
       λ i. record { opened = value i; waiting = (thr.told i).waiting; told = (thr.told i).notified; wakes = (thr.told i).wakes }
-
-  pub stays_shut : (l l' : Lock Bool W) (s s' : Condvar W) (n : ℕ) (w : W) → IsGate l s → IsBefore l l' s s' n w → IsGate l' s'
-  stays_shut l l' s s' n w is bef =
-      let value : l'.value ≡ l.value = ap (λ (x : Lock Bool W). x.value) bef.lock in
-      record {
-        free = ap (λ (x : Lock Bool W). x.permits) bef.lock ∙ is.free;
-        left = λ yes. absurd (let both : true ≡ false = sym yes ∙ value ∙ bef.shut in cc);
-        shut = λ _. ap (λ (c : Condvar W). c.notified) bef.waits ∙ is.shut bef.shut;
-      }
-
-  pub gate_before : (l l' : Lock Bool W) (s s' : Condvar W) (n : ℕ) (w : W) → IsBefore l l' s s' n w → gate_of l' s' ≡ record (gate_of l s) { waiting = with_waker s.waiting n w }
-  gate_before l l' s s' n w bef = λ i. record { opened = (bef.lock i).value; waiting = (bef.waits i).waiting; told = (bef.waits i).notified; wakes = (bef.waits i).wakes }
 
   -- ---- ends
 

@@ -35,9 +35,6 @@ module _ {W : Type 0} where
   viewed : (s : Core W) (t : Places W) → s.live ≡ t.size → held_of s ≡ t.held → leases_of s.queue ≡ t.waiting → s.granted ≡ t.granted → s.cut ≡ t.cut → s.closed ≡ t.closed → s.wakes ≡ t.wakes → places_of s ≡ t
   viewed s t size held waits granted cut closed wakes = λ i. record { size = size i; held = held i; waiting = waits i; granted = granted i; cut = cut i; closed = closed i; wakes = wakes i }
 
-  apart_of : (s : Core W) (n : ℕ) → IsPlaces s → waiting s.queue n ≢ None → map.get s.granted n ≡ None
-  apart_of s n is waits = is.sound.granted_apart n waits
-
   -- a place comes back at places of which one more is taken than a lease or a grant has
   pub comes_back : (t s' : Core W) (h : ℕ) → AskForOne t.queue → 1 ≤ t.live → s' ≡ given_back t 1 → core.IsSound s' → t.free + h + map.len t.granted + 1 ≡ t.live → held_of s' ≡ h
       → ((n : ℕ) → waiting t.queue n ≢ None → map.get t.granted n ≡ None) → IsPlaces s' × (places_of s' ≡ with_place (record (places_of t) { held = h }))

@@ -1,5 +1,5 @@
 -- the polls of a pool, from those of its places and its gate
-use Rattle.std.proofs.Common.{◌≡◌, ◌≢◌, ◌∙◌, ℕ, ◌+◌, ◌<◌, ◌≤◌, ◌==◌, ◌&&◌, ◌++◌, ◌⊎◌, inl, inr, true, false, [], ◌∷◌, Some, None, Result, Ok, Err, MatchResult, length, refl, ap, sym, subst, arith, length-set}
+use Rattle.std.proofs.Common.{◌≡◌, ◌≢◌, ◌∙◌, ℕ, ◌+◌, ◌<◌, ◌≤◌, ◌++◌, ◌⊎◌, inl, inr, true, false, [], ◌∷◌, Some, None, Result, Ok, Err, MatchResult, length, refl, ap, sym, subst, arith, length-set}
 use Rattle.std.proofs.lemmas.Bool.{cases_lt, cases_Bool}
 use Rattle.std.specs.Prelude.{OnErr}
 use Rattle.std.specs.FinMap as map
@@ -7,7 +7,7 @@ use Rattle.mea_base.specs.declared.poll.Poll.{Poll}
 use Rattle.mea_base.specs.declared.poll.Poll.TheVariants as poll
 use Rattle.mea_base.specs.declared.no_memory.NoMemory.{NoMemory}
 use Rattle.mea_sem_core.specs.declared.open_turn.OpenTurn.{OpenTurn}
-use Rattle.mea_sem_core.specs.declared.open_turn.OpenTurn.TheVariants.{Ready, Pending, Closed}
+use Rattle.mea_sem_core.specs.declared.open_turn.OpenTurn.TheVariants.{Ready, Pending}
 use Rattle.mea_lock_core.specs.Condvar.{with_waker, without_wait}
 use Rattle.mea_pool_core.specs.declared.lease_wait.LeaseWait.{LeaseWait}
 use Rattle.mea_pool_core.specs.declared.lease_wait.LeaseWait.TheVariants.{New, Queued, Done, Refused}
@@ -15,7 +15,7 @@ use Rattle.mea_pool_core.specs.declared.lease_poll.LeasePoll.TheVariants as answ
 use Rattle.mea_pool_core.specs.declared.drain_wait.DrainWait.{DrainWait}
 use Rattle.mea_pool_core.specs.declared.drain_wait.DrainWait.TheVariants as drain
 use Rattle.mea_pool_core.specs.Shelf.{Shelf, lent_count, Lends}
-use Rattle.mea_pool_core.specs.Places.{Places, taken_of, are_drained, IsUnmet, WaitsLast, PollsPlace, FindsPlace, TriesPlace}
+use Rattle.mea_pool_core.specs.Places.{Places, taken_of, are_drained, IsUnmet, PollsPlace, FindsPlace, TriesPlace}
 use Rattle.mea_pool_core.specs.Gate.{Gate, MayPollAt, StandsLast, PollsGate, EndsGate}
 use Rattle.mea_pool_core.specs.Pool.{Pool, taken, is_drained}
 use Rattle.mea_pool_core.specs.Calls.{MayPoll, Gets, PollsLease, TriesLease, Lists, PollsDrain, EndsDrain}
@@ -120,91 +120,6 @@ module _ {R W : Type 0} where
       why : (s.closed ≡ true) ⊎ (s.size ≤ taken_of s) → (s.closed ≡ true) ⊎ (length x.lent ≤ taken (pool_of x s g))
       why (inl closed) = inl closed
       why (inr full) = inr (let size : s.size ≡ length x.lent = are.size in let held : s.held ≡ lent_count x.lent = are.held in omega arith)
-
-  -- ---- a lease is waited for, or refused
-
-  pub pends : (x : Shelf R) (s s' : Places W) (g : Gate W) (a a' : LeaseWait) (w : W) → ArePool x s g → PollsPlace s a w (Ok Pending) s' a' → PollsLease (pool_of x s g) a w (Ok answer.Pending) (pool_of x s' g) a'
-  pends x s s' g New a' w are polls = (
-    (λ closed. absurd (let no = (polls.0 closed).0 in cc)),
-    (λ opens room. absurd (let no = (polls.1 opens (room_is x s g are room)).0 in cc)),
-    (λ opens full.
-        let h = polls.2 opens (full_is x s g are full) in
-        let last : WaitsLast s s' h.1.0 w = h.1.1 in
-        (refl, (h.1.0, record { is = ap (λ (p : Places W). pool_of x p g) last.is; not_waiting = last.not_waiting; not_granted = last.not_granted; not_cut = last.not_cut }, h.1.2))),
-  )
-  pends x s s' g (Queued n) a' w are polls = (
-    (λ there. absurd (let no = (polls.0 there).0 in cc)),
-    (λ some. let h = polls.1 some in (refl, ap (λ (p : Places W). pool_of x p g) h.1, h.2)),
-    (λ there. absurd (let no = (polls.2 there).0 in cc)),
-  )
-  pends x s s' g Done a' w are polls = tt
-  pends x s s' g Refused a' w are polls = absurd (let no = polls.0 in cc)
-
-  pub closed_to : (x : Shelf R) (s s' : Places W) (g : Gate W) (a a' : LeaseWait) (w y : W) → ArePool x s g → PollsPlace s a w (Ok (Closed y)) s' a' → PollsLease (pool_of x s g) a w (Ok answer.Closed) (pool_of x s' g) a'
-  closed_to x s s' g New a' w y are polls = (
-    (λ closed. let h = polls.0 closed in (refl, ap (λ (p : Places W). pool_of x p g) h.1, h.2)),
-    (λ opens room. absurd (let no = (polls.1 opens (room_is x s g are room)).0 in cc)),
-    (λ opens full. absurd (let no = (polls.2 opens (full_is x s g are full)).0 in cc)),
-  )
-  closed_to x s s' g (Queued n) a' w y are polls = (
-    (λ there. absurd (let no = (polls.0 there).0 in cc)),
-    (λ some. absurd (let no = (polls.1 some).0 in cc)),
-    (λ there. let h = polls.2 there in (refl, ap (λ (p : Places W). pool_of x p g) h.1, h.2)),
-  )
-  closed_to x s s' g Done a' w y are polls = tt
-  closed_to x s s' g Refused a' w y are polls = (refl, ap (λ (p : Places W). pool_of x p g) polls.1, polls.2)
-
-  pub no_memory : (x : Shelf R) (s s' : Places W) (g : Gate W) (a a' : LeaseWait) (w : W) (e : W × NoMemory) → ArePool x s g → PollsPlace s a w (Err e) s' a' → PollsLease (pool_of x s g) a w (Err e) (pool_of x s' g) a'
-  no_memory x s s' g New a' w e are polls = (
-    (λ closed. absurd (let no = (polls.0 closed).0 in cc)),
-    (λ opens room. absurd (let no = (polls.1 opens (room_is x s g are room)).0 in cc)),
-    (λ opens full. let h = polls.2 opens (full_is x s g are full) in (h.0, ap (λ (p : Places W). pool_of x p g) h.1, h.2)),
-  )
-  no_memory x s s' g (Queued n) a' w e are polls = (
-    (λ there. absurd (let no = (polls.0 there).0 in cc)),
-    (λ some. absurd (let no = (polls.1 some).0 in cc)),
-    (λ there. absurd (let no = (polls.2 there).0 in cc)),
-  )
-  no_memory x s s' g Done a' w e are polls = tt
-  no_memory x s s' g Refused a' w e are polls = absurd (let no = polls.0 in cc)
-
-  -- a poll that gives no lease leaves as many places held and granted
-  unmoved : (x : Shelf R) (s s' t : Places W) (g : Gate W) → ArePool x s g → s' ≡ t → t.size ≡ s.size → t.held ≡ s.held → t.closed ≡ s.closed → t.granted ≡ s.granted → ArePool x s' g
-  unmoved x s s' t g are is size held closed granted =
-      subst (λ (p : Places W). ArePool x p g) (sym is) (record {
-        size = size ∙ are.size;
-        held = held ∙ are.held;
-        gate = are.gate ∙ sym (λ i. closed i && (held i + map.len (granted i) == 0));
-        early = are.early;
-      })
-
-  pub pends_keeps : (x : Shelf R) (s s' : Places W) (g : Gate W) (a a' : LeaseWait) (w : W) → ArePool x s g → MayPoll (pool_of x s g) a → PollsPlace s a w (Ok Pending) s' a' → ArePool x s' g
-  pends_keeps x s s' g New a' w are may polls = elim (cases_Bool s.closed) [
-    | inl closed ↦ absurd (let no = (polls.0 closed).0 in cc)
-    | inr opens ↦ elim (cases_lt (taken_of s) s.size) [
-      | inl room ↦ absurd (let no = (polls.1 opens room).0 in cc)
-      | inr full ↦ let h = polls.2 opens full in let last : WaitsLast s s' h.1.0 w = h.1.1 in unmoved x s s' (record s { waiting = s.waiting ++ (h.1.0, w) ∷ [] }) g are last.is refl refl refl refl
-    ]
-  ]
-  pends_keeps x s s' g (Queued n) a' w are (inl (inl there), _) polls = absurd (let no = (polls.0 there).0 in cc)
-  pends_keeps x s s' g (Queued n) a' w are (inl (inr some), _) polls = unmoved x s s' (record s { waiting = with_waker s.waiting n w }) g are (polls.1 some).1 refl refl refl refl
-  pends_keeps x s s' g (Queued n) a' w are (inr there, _) polls = absurd (let no = (polls.2 there).0 in cc)
-  pends_keeps x s s' g Done a' w are may polls = absurd may.1
-  pends_keeps x s s' g Refused a' w are may polls = absurd (let no = polls.0 in cc)
-
-  pub closed_keeps : (x : Shelf R) (s s' : Places W) (g : Gate W) (a a' : LeaseWait) (w y : W) → ArePool x s g → MayPoll (pool_of x s g) a → PollsPlace s a w (Ok (Closed y)) s' a' → ArePool x s' g
-  closed_keeps x s s' g New a' w y are may polls = elim (cases_Bool s.closed) [
-    | inl closed ↦ unmoved x s s' s g are (polls.0 closed).1 refl refl refl refl
-    | inr opens ↦ elim (cases_lt (taken_of s) s.size) [
-      | inl room ↦ absurd (let no = (polls.1 opens room).0 in cc)
-      | inr full ↦ absurd (let no = (polls.2 opens full).0 in cc)
-    ]
-  ]
-  closed_keeps x s s' g (Queued n) a' w y are (inl (inl there), _) polls = absurd (let no = (polls.0 there).0 in cc)
-  closed_keeps x s s' g (Queued n) a' w y are (inl (inr some), _) polls = absurd (let no = (polls.1 some).0 in cc)
-  closed_keeps x s s' g (Queued n) a' w y are (inr there, _) polls = unmoved x s s' (record s { cut = map.remove s.cut n }) g are (polls.2 there).1 refl refl refl refl
-  closed_keeps x s s' g Done a' w y are may polls = absurd may.1
-  closed_keeps x s s' g Refused a' w y are may polls = unmoved x s s' s g are polls.1 refl refl refl refl
 
   -- ---- the end of a drain
 

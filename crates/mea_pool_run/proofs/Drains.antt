@@ -1,5 +1,5 @@
 -- a wait for the end of the drain is polled or ends
-use Rattle.std.proofs.Common.{◌≡◌, ℕ, ◌+◌, ◌++◌, inl, inr, Bool, true, false, [], ◌∷◌, Some, None, Ok, refl, ap, sym, subst, ◌∙◌}
+use Rattle.std.proofs.Common.{◌≡◌, ℕ, ◌++◌, inl, inr, Bool, true, false, [], ◌∷◌, Some, None, Ok, refl, ap, sym, subst, ◌∙◌}
 use Rattle.std.specs.Option.{IsSome}
 use Rattle.std.specs.Ordering.{nat_cmp}
 use Rattle.std.specs.FinMap.{FinMap, get, insert, remove}
@@ -23,7 +23,7 @@ use Rattle.mea_pool_run.specs.Kept.{Numbered, names_of, live_of, hall_of, asked,
 use Rattle.mea_pool_run.proofs.Linking.{At, put, absent_left, left_named, registered_last, registered_again}
 use Rattle.mea_pool_run.proofs.Polls.{hall_path}
 use Rattle.mea_pool_run.proofs.Standing.{ready, lists_last, rewaked_lists, leaves_list}
-use Rattle.mea_pool_run.proofs.Things.{put_back, at_alike, at_inserted, at_removed, at_without, going_put, going_gone, put_over}
+use Rattle.mea_pool_run.proofs.Things.{put_back, at_alike, at_inserted, at_removed, at_without, going_put, going_gone}
 
 -- the waits that a hall keeps are those of the pool
 pub may_poll_drain : (p : Pool ℕ NamedWaker) (things : Names Thing) (f : ℕ) (c : DrainWait) → Keeps p things → get things f ≡ Some (Wait c) → MayPollDrain p c
@@ -94,26 +94,25 @@ module _ (p : Pool ℕ NamedWaker) (things : Names Thing) (stands : Stands p thi
   -- the wait goes on, under this number
   stays : (f w : ℕ) (c : DrainWait) (m : ℕ) (lists : Numbered) → get things f ≡ Some (Wait c) → names_of lists ≡ registering (names_of p.drains) f w
       → WaitsStand (put wait_at f (Some m)) lists p.told (is_drained p)
-      → Goes (polled_drain false s f w) (record p { drains = lists }) (insert (remove things f) f (Wait (drain.Listed m))) (Told answers.Pending)
-  stays f w c m lists is named ending =
-      subst (λ (ts : Names Thing). Goes (polled_drain false s f w) (record p { drains = lists }) ts (Told answers.Pending)) (sym (put_over things f (Wait (drain.Listed m)))) (record {
-        hall = hall_path _ _ refl refl refl (seen-alike (live_of p.granted) things f (Wait c) (Wait (drain.Listed m)) is refl) refl refl named;
-        replied = refl;
-        woken = silent;
-        keeps = keeps_waits (insert things f (Wait (drain.Listed m))) lists p.told (going_put things f (Wait (drain.Listed m)) stands.keeps.going tt)
-            (subst (λ (at : At). WaitsStand at lists p.told (is_drained p)) (sym (at_inserted awaited things f (Wait (drain.Listed m)))) ending)
-            (at_alike asked things f (Wait (drain.Listed m)) (ap asked is)) (at_alike held things f (Wait (drain.Listed m)) (ap held is));
-      })
+      → Goes (polled_drain false s f w) (record p { drains = lists }) (insert things f (Wait (drain.Listed m))) (Told answers.Pending)
+  stays f w c m lists is named ending = record {
+    hall = hall_path _ _ refl refl refl (seen-alike (live_of p.granted) things f (Wait c) (Wait (drain.Listed m)) is refl) refl refl named;
+    replied = refl;
+    woken = silent;
+    keeps = keeps_waits (insert things f (Wait (drain.Listed m))) lists p.told (going_put things f (Wait (drain.Listed m)) stands.keeps.going tt)
+        (subst (λ (at : At). WaitsStand at lists p.told (is_drained p)) (sym (at_inserted awaited things f (Wait (drain.Listed m)))) ending)
+        (at_alike asked things f (Wait (drain.Listed m)) (ap asked is)) (at_alike held things f (Wait (drain.Listed m)) (ap held is));
+  }
 
   pub is_pending : (f n w : ℕ) (c c' : DrainWait) (p' : Pool ℕ NamedWaker) → get things f ≡ Some (Wait c)
-      → PollsDrain p c (record { future = f; waker = w }) (Ok poll.Pending) p' c' → Goes (poll_of (get s.things f) s n f w) p' (insert (remove things f) f (Wait c')) (Told answers.Pending)
+      → PollsDrain p c (record { future = f; waker = w }) (Ok poll.Pending) p' c' → Goes (poll_of (get s.things f) s n f w) p' (insert things f (Wait c')) (Told answers.Pending)
   is_pending f n w drain.New c' p' is polls = elim (cases_Bool (is_drained p)) [
     | inl drained ↦ absurd (let never = (polls.0 drained).0 in cc)
     | inr undrained ↦
         let new = (polls.1 undrained).1 in
-        subst (λ (o : Outcome). Goes o p' (insert (remove things f) f (Wait c')) (Told answers.Pending)) (sym (poll_is f n w drain.New false is undrained))
-        (subst (λ (d : DrainWait). Goes (polled_drain false s f w) p' (insert (remove things f) f (Wait d)) (Told answers.Pending)) (sym new.2)
-        (subst (λ (q : Pool ℕ NamedWaker). Goes (polled_drain false s f w) q (insert (remove things f) f (Wait (drain.Listed new.0))) (Told answers.Pending)) (sym new.1.is)
+        subst (λ (o : Outcome). Goes o p' (insert things f (Wait c')) (Told answers.Pending)) (sym (poll_is f n w drain.New false is undrained))
+        (subst (λ (d : DrainWait). Goes (polled_drain false s f w) p' (insert things f (Wait d)) (Told answers.Pending)) (sym new.2)
+        (subst (λ (q : Pool ℕ NamedWaker). Goes (polled_drain false s f w) q (insert things f (Wait (drain.Listed new.0))) (Told answers.Pending)) (sym new.1.is)
         (stays f w drain.New new.0 (p.drains ++ (new.0, record { future = f; waker = w }) ∷ []) is
         (registered_last wait_at f new.0 w p.drains stands.keeps.ending.linked.named (ap awaited is))
         (lists_last wait_at p.drains p.told (is_drained p) stands.keeps.ending f new.0 w undrained (ap awaited is) new.1.not_listed))))
@@ -123,9 +122,9 @@ module _ (p : Pool ℕ NamedWaker) (things : Names Thing) (stands : Stands p thi
     | inr undrained ↦
         let again = polls.1 undrained in
         let here : wait_at f ≡ Some m = ap awaited is in
-        subst (λ (o : Outcome). Goes o p' (insert (remove things f) f (Wait c')) (Told answers.Pending)) (sym (poll_is f n w (drain.Listed m) false is undrained))
-        (subst (λ (d : DrainWait). Goes (polled_drain false s f w) p' (insert (remove things f) f (Wait d)) (Told answers.Pending)) (sym again.2)
-        (subst (λ (q : Pool ℕ NamedWaker). Goes (polled_drain false s f w) q (insert (remove things f) f (Wait (drain.Listed m))) (Told answers.Pending)) (sym again.1)
+        subst (λ (o : Outcome). Goes o p' (insert things f (Wait c')) (Told answers.Pending)) (sym (poll_is f n w (drain.Listed m) false is undrained))
+        (subst (λ (d : DrainWait). Goes (polled_drain false s f w) p' (insert things f (Wait d)) (Told answers.Pending)) (sym again.2)
+        (subst (λ (q : Pool ℕ NamedWaker). Goes (polled_drain false s f w) q (insert things f (Wait (drain.Listed m))) (Told answers.Pending)) (sym again.1)
         (stays f w (drain.Listed m) m (with_waker p.drains m (record { future = f; waker = w })) is
         (registered_again wait_at f m stands.keeps.ending.linked.single here w p.drains stands.keeps.ending.linked.named stands.keeps.ending.linked.apart (listed f m here undrained))
         (subst (λ (at : At). WaitsStand at (with_waker p.drains m (record { future = f; waker = w })) p.told (is_drained p)) (sym (put_back wait_at f (Some m) here))

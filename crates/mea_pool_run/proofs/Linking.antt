@@ -114,21 +114,6 @@ put_some at f n g m = by_test (f == g) refl
 others : (at : At) (f g : ℕ) (x : Option ℕ) (o : Option ℕ) → (f == g) ≡ false → at g ≡ o → put at f x g ≡ o
 others at f g x o differs is = ap (λ b. cond b x (at g)) differs ∙ is
 
--- at f stands nothing, before and after
-pub put_nothing : (at : At) (f : ℕ) → at f ≡ None → put at f None ≡ at
-put_nothing at f none = λ i g. by_test g (f == g) refl i
-  where
-    by_test : (g : ℕ) (b : Bool) → (f == g) ≡ b → cond b None (at g) ≡ at g
-    by_test g true is = sym (ap at (sym (eqb-true f g is)) ∙ none)
-    by_test g false is = refl
-
-pub put_same : (at : At) (f n : ℕ) → at f ≡ Some n → put at f (Some n) ≡ at
-put_same at f n here = λ i g. by_test g (f == g) refl i
-  where
-    by_test : (g : ℕ) (b : Bool) → (f == g) ≡ b → cond b (Some n) (at g) ≡ at g
-    by_test g true is = sym (ap at (sym (eqb-true f g is)) ∙ here)
-    by_test g false is = refl
-
 pub single_none : (at : At) (f : ℕ) → IsSingle at → IsSingle (put at f None)
 single_none at f single g h m a b = single g h m (put_none at f g m a).0 (put_none at f h m b).0
 
@@ -242,17 +227,6 @@ module _ {Else : ℕ → Type 0} (at : At) (q : Numbered) (linked : Linked at q 
     single = linked.single;
     home = λ g m is. elim (linked.home g m is) [
       | inl waits ↦ inr (waited m waits)
-      | inr els ↦ inr (turns m els)
-    ];
-  }
-
-  pub turned : {Other : ℕ → Type 0} → ((m : ℕ) → Else m → Other m) → Linked at q Other
-  turned turns = record {
-    named = linked.named;
-    apart = linked.apart;
-    single = linked.single;
-    home = λ g m is. elim (linked.home g m is) [
-      | inl waits ↦ inl waits
       | inr els ↦ inr (turns m els)
     ];
   }

@@ -23,7 +23,7 @@ use Rattle.mea_pool_core.proofs.Shelves.{count_back}
 use Rattle.mea_pool_run.specs.declared.reply.PoolReply.TheVariants.{Told}
 use Rattle.mea_pool_run.specs.declared.thing.Thing.{Thing}
 use Rattle.mea_pool_run.specs.declared.thing.Thing.TheVariants.{Ask, Held}
-use Rattle.mea_pool_run.specs.Hall.{asks, Hall, Outcome, quietly, settled_at, settled, passed_for, passed_on, drained_at, drained, ended, end_of, back_of}
+use Rattle.mea_pool_run.specs.Hall.{asks, Hall, Outcome, quietly, settled_at, settled, passed_for, drained_at, drained, ended, end_of, back_of}
 use Rattle.mea_pool_run.specs.Kept.{Numbered, names_of, is_granted, live_of, hall_of, asked, awaited, held, IsGoing, AsksStand, LeasesStand, WaitsStand, Stands, Goes, wakers_of}
 use Rattle.mea_pool_run.proofs.Linking.{At, put, left_named, absent_left}
 use Rattle.mea_pool_run.proofs.Polls.{hall_path, keeps_asks}

@@ -1,5 +1,5 @@
 -- a wait for a lease is polled
-use Rattle.std.proofs.Common.{◌≡◌, ℕ, ◌+◌, ◌-◌, ◌<◌, ◌==◌, ◌&&◌, inl, inr, not, nat_lt, Bool, true, false, List, [], ◌∷◌, Some, None, is_some, Result, Ok, set, length, length-set, refl, ap, sym, subst, ◌∙◌, arith}
+use Rattle.std.proofs.Common.{◌≡◌, ℕ, ◌+◌, ◌<◌, ◌==◌, ◌&&◌, inl, inr, not, nat_lt, Bool, true, false, List, [], ◌∷◌, Some, None, is_some, Result, Ok, set, length, length-set, refl, ap, sym, subst, ◌∙◌, arith}
 use Rattle.std.specs.Option.{IsSome}
 use Rattle.std.specs.Ordering.{nat_cmp}
 use Rattle.std.specs.FinMap as map
@@ -27,7 +27,7 @@ use Rattle.mea_pool_run.specs.Hall.{asks, leases, Hall, Outcome, quietly, lent, 
 use Rattle.mea_pool_run.specs.Kept.{names_of, is_granted, live_of, hall_of, asked, awaited, held, IsGoing, AsksStand, LeasesStand, WaitsStand, Keeps, Stands, Goes, wakers_of}
 use Rattle.mea_pool_run.proofs.Linking.{At, put, absent, registered_last, waits_named, registered_again}
 use Rattle.mea_pool_run.proofs.Standing.{took, waits_last, rewaked_waits, refused, lends}
-use Rattle.mea_pool_run.proofs.Things.{put_back, at_each, at_alike, at_inserted, at_removed, at_without, at_gone, at_come, at_still, going_put, going_gone, put_over, seen_took}
+use Rattle.mea_pool_run.proofs.Things.{put_back, at_each, at_alike, at_inserted, at_removed, at_without, at_gone, at_come, at_still, going_put, going_gone, seen_took}
 
 abbrev pub hall_path : (s t : Hall) → s.size ≡ t.size → s.taken ≡ t.taken → s.shelf ≡ t.shelf → s.things ≡ t.things → s.waiting ≡ t.waiting → s.draining ≡ t.draining → s.drains ≡ t.drains → s ≡ t
 hall_path s t size taken shelf things waiting draining drains =
@@ -154,19 +154,18 @@ module _ (p : Pool ℕ NamedWaker) (things : Names Thing) (stands : Stands p thi
   -- the wait goes on, under this number
   stays : (f n w : ℕ) (a : LeaseWait) (m : ℕ) (waiting : List (ℕ × NamedWaker)) → get things f ≡ Some (Ask a) → is_granted p.granted a ≡ false → is_some (get p.granted m) ≡ false
       → names_of waiting ≡ registering (names_of p.waiting) f w → AsksStand (put ask_at f (Some m)) waiting p.granted p.cut p.draining
-      → Goes (quietly (record s { waiting = registering s.waiting f w }) (Told answers.Pending)) (record p { waiting = waiting }) (insert (remove things f) f (Ask (lease.Queued m))) (Told answers.Pending)
-  stays f n w a m waiting is was not_granted named asking =
-      subst (λ (ts : Names Thing). Goes (quietly (record s { waiting = registering s.waiting f w }) (Told answers.Pending)) (record p { waiting = waiting }) ts (Told answers.Pending)) (sym (put_over things f (Ask (lease.Queued m)))) (record {
-        hall = hall_path _ _ refl refl refl (seen-alike (live_of p.granted) things f (Ask a) (Ask (lease.Queued m)) is (ap asks (not_granted ∙ sym was))) named refl refl;
-        replied = refl;
-        woken = silent;
-        keeps = keeps_asks (insert things f (Ask (lease.Queued m))) waiting p.granted p.cut (going_put things f (Ask (lease.Queued m)) stands.keeps.going tt)
-            (subst (λ (at : At). AsksStand at waiting p.granted p.cut p.draining) (sym (at_inserted asked things f (Ask (lease.Queued m)))) asking)
-            (at_alike held things f (Ask (lease.Queued m)) (ap held is)) (at_alike awaited things f (Ask (lease.Queued m)) (ap awaited is)) refl;
-      })
+      → Goes (quietly (record s { waiting = registering s.waiting f w }) (Told answers.Pending)) (record p { waiting = waiting }) (insert things f (Ask (lease.Queued m))) (Told answers.Pending)
+  stays f n w a m waiting is was not_granted named asking = record {
+    hall = hall_path _ _ refl refl refl (seen-alike (live_of p.granted) things f (Ask a) (Ask (lease.Queued m)) is (ap asks (not_granted ∙ sym was))) named refl refl;
+    replied = refl;
+    woken = silent;
+    keeps = keeps_asks (insert things f (Ask (lease.Queued m))) waiting p.granted p.cut (going_put things f (Ask (lease.Queued m)) stands.keeps.going tt)
+        (subst (λ (at : At). AsksStand at waiting p.granted p.cut p.draining) (sym (at_inserted asked things f (Ask (lease.Queued m)))) asking)
+        (at_alike held things f (Ask (lease.Queued m)) (ap held is)) (at_alike awaited things f (Ask (lease.Queued m)) (ap awaited is)) refl;
+  }
 
   pub pending : (f n w : ℕ) (a a' : LeaseWait) (p' : Pool ℕ NamedWaker) → get things f ≡ Some (Ask a)
-      → PollsLease p a (record { future = f; waker = w }) (Ok answer.Pending) p' a' → Goes (poll_of (get s.things f) s n f w) p' (insert (remove things f) f (Ask a')) (Told answers.Pending)
+      → PollsLease p a (record { future = f; waker = w }) (Ok answer.Pending) p' a' → Goes (poll_of (get s.things f) s n f w) p' (insert things f (Ask a')) (Told answers.Pending)
   pending f n w lease.New a' p' is polls = elim (cases_Bool p.draining) [
     | inl closed ↦ absurd (let no = (polls.0 closed).0 in cc)
     | inr undrained ↦ elim (cases_lt (taken p) (length p.lent)) [
@@ -176,9 +175,9 @@ module _ (p : Pool ℕ NamedWaker) (things : Names Thing) (stands : Stands p thi
           let no_place : (not (waits (names_of p.waiting) f) && nat_lt (taken p) (length p.lent)) ≡ false =
           ap (λ b. not b && nat_lt (taken p) (length p.lent)) (absent ask_at f p.waiting stands.keeps.asking.linked.named (ap asked is)) ∙ le-ltb (taken p) (length p.lent) full in
           let told = poll_is f n w lease.New false is refl ∙ ap (λ d. polled_at d s n f w) undrained ∙ ap (λ b. gets_or_waits b s n f w) no_place in
-          subst (λ (o : Outcome). Goes o p' (insert (remove things f) f (Ask a')) (Told answers.Pending)) (sym told)
-          (subst (λ (b : LeaseWait). Goes (gets_or_waits false s n f w) p' (insert (remove things f) f (Ask b)) (Told answers.Pending)) (sym new.2)
-          (subst (λ (q : Pool ℕ NamedWaker). Goes (gets_or_waits false s n f w) q (insert (remove things f) f (Ask (lease.Queued new.0))) (Told answers.Pending)) (sym new.1.is)
+          subst (λ (o : Outcome). Goes o p' (insert things f (Ask a')) (Told answers.Pending)) (sym told)
+          (subst (λ (b : LeaseWait). Goes (gets_or_waits false s n f w) p' (insert things f (Ask b)) (Told answers.Pending)) (sym new.2)
+          (subst (λ (q : Pool ℕ NamedWaker). Goes (gets_or_waits false s n f w) q (insert things f (Ask (lease.Queued new.0))) (Told answers.Pending)) (sym new.1.is)
           (stays f n w lease.New new.0 _ is refl (ap is_some new.1.not_granted)
           (registered_last ask_at f new.0 w p.waiting stands.keeps.asking.linked.named (ap asked is))
           (waits_last ask_at p.waiting p.granted p.cut p.draining stands.keeps.asking f new.0 w undrained (ap asked is) new.1.not_waiting new.1.not_granted))))
@@ -194,9 +193,9 @@ module _ (p : Pool ℕ NamedWaker) (things : Names Thing) (stands : Stands p thi
         let no_place : (not (waits (names_of p.waiting) f) && nat_lt (taken p) (length p.lent)) ≡ false =
         ap (λ b. not b && nat_lt (taken p) (length p.lent)) (waits_named ask_at f m single here p.waiting named ∙ some) in
         let told = poll_is f n w (lease.Queued m) false is (ap is_some none) ∙ ap (λ d. polled_at d s n f w) (undrained_while m some) ∙ ap (λ b. gets_or_waits b s n f w) no_place in
-        subst (λ (o : Outcome). Goes o p' (insert (remove things f) f (Ask a')) (Told answers.Pending)) (sym told)
-        (subst (λ (b : LeaseWait). Goes (gets_or_waits false s n f w) p' (insert (remove things f) f (Ask b)) (Told answers.Pending)) (sym again.2)
-        (subst (λ (q : Pool ℕ NamedWaker). Goes (gets_or_waits false s n f w) q (insert (remove things f) f (Ask (lease.Queued m))) (Told answers.Pending)) (sym again.1)
+        subst (λ (o : Outcome). Goes o p' (insert things f (Ask a')) (Told answers.Pending)) (sym told)
+        (subst (λ (b : LeaseWait). Goes (gets_or_waits false s n f w) p' (insert things f (Ask b)) (Told answers.Pending)) (sym again.2)
+        (subst (λ (q : Pool ℕ NamedWaker). Goes (gets_or_waits false s n f w) q (insert things f (Ask (lease.Queued m))) (Told answers.Pending)) (sym again.1)
         (stays f n w (lease.Queued m) m _ is (ap is_some none) (ap is_some none)
         (registered_again ask_at f m single here w p.waiting named stands.keeps.asking.linked.apart some)
         (subst (λ (at : At). AsksStand at (with_waker p.waiting m (record { future = f; waker = w })) p.granted p.cut p.draining) (sym (put_back ask_at f (Some m) here))

@@ -1,11 +1,11 @@
 -- who waits for a lease, by name, and in which order
-use Rattle.std.proofs.Common.{◌≡◌, ℕ, ◌+◌, ◌≤◌, ◌==◌, ◌++◌, inl, inr, Bool, true, false, cond, List, [], ◌∷◌, Option, Some, None, is_some, length, refl, ap, sym, subst, ◌∙◌, arith, append-nil}
+use Rattle.std.proofs.Common.{◌≡◌, ℕ, ◌≤◌, ◌==◌, ◌++◌, inl, inr, Bool, true, false, cond, List, [], ◌∷◌, Option, Some, None, is_some, length, refl, ap, sym, subst, ◌∙◌, arith, append-nil}
 use Rattle.std.proofs.lemmas.Bool.{eq-eqb, cases_eq}
 use Rattle.std.specs.Option.{IsSome}
 use Rattle.std.specs.FinMap.{get, insert, remove}
 use Rattle.mea_base.proofs.Maps.{by_put, by_gone}
 use Rattle.mea_by_name.specs.ByName.{Names}
-use Rattle.mea_by_name.specs.NamedQueue.{Waiting, waker_for, waits, registering, without}
+use Rattle.mea_by_name.specs.NamedQueue.{Waiting, waker_for, registering, without}
 use Rattle.mea_by_name.proofs.NamedQueues.{registering-other, without-other}
 use Rattle.mea_pool_run.specs.Hall.{Live, asks}
 use Rattle.mea_pool_run.specs.Orderly.{names, IsPart}

@@ -17,9 +17,6 @@ use Rattle.mea_pool_run.proofs.Linking.{put, pushed, left, rewaked, cleared, pop
 
 -- ---- what is not there
 
-some_not_none : {X : Type 0} (o : Option X) → o ≡ None → IsSome o → ⊥
-some_not_none o none some = let no : false ≡ true = ap is_some (sym none) ∙ some in absurd (cc)
-
 true_not_false : (b : Bool) → b ≡ false → b ≡ true → ⊥
 true_not_false b is_false is_true = absurd (cc)
 

@@ -1,6 +1,6 @@
 -- events that change no core, and those that change nothing
 use Rattle.std.proofs.Common.{◌≡◌, ℕ, Option, Some, None, refl, ap, sym, subst, ◌∙◌}
-use Rattle.std.specs.FinMap.{get, insert, remove}
+use Rattle.std.specs.FinMap.{get, insert}
 use Rattle.std.specs.Option.{option_map}
 use Rattle.mea_base.proofs.NamedMaps.{get-seen}
 use Rattle.mea_by_name.specs.declared.named_waker.NamedWaker.{NamedWaker}
@@ -18,7 +18,7 @@ use Rattle.mea_pool_run.specs.Hall.{Hall, Outcome, quietly, made, poll_of, end_o
 use Rattle.mea_pool_run.specs.Kept.{live_of, hall_of, asked, awaited, held, IsGoing, IsNew, AsksStand, LeasesStand, WaitsStand, Keeps, Stands, Goes, wakers_of}
 use Rattle.mea_pool_run.proofs.Linking.{At}
 use Rattle.mea_pool_run.proofs.Polls.{hall_path}
-use Rattle.mea_pool_run.proofs.Things.{at_alike, going_put, put_over}
+use Rattle.mea_pool_run.proofs.Things.{at_alike, going_put}
 
 -- no wait stands there, and no lease
 abbrev pub IsNoWait : Option Thing → Type 0
@@ -136,13 +136,12 @@ module _ (p : Pool ℕ NamedWaker) (things : Names Thing) (stands : Stands p thi
       none_held (Held l) new = absurd new
 
   pub sets : (l v : ℕ) (lease : ℕ × ℕ) → get things l ≡ Some (Held lease)
-      → Goes (use_of (get s.things l) s l v) p (insert (remove things l) l (Held (lease.0, v))) (Told answers.Done)
+      → Goes (use_of (get s.things l) s l v) p (insert things l (Held (lease.0, v))) (Told answers.Done)
   sets l v lease is =
-      subst (λ (o : Outcome). Goes o p (insert (remove things l) l (Held (lease.0, v))) (Told answers.Done)) (sym (ap (λ x. use_of x s l v) (seen-at (live_of p.granted) things l (Held lease) is)))
-      (subst (λ (ts : Names Thing). Goes (use_of (Some (live_of p.granted (Held lease))) s l v) p ts (Told answers.Done)) (sym (put_over things l (Held (lease.0, v)))) (record {
+      subst (λ (o : Outcome). Goes o p (insert things l (Held (lease.0, v))) (Told answers.Done)) (sym (ap (λ x. use_of x s l v) (seen-at (live_of p.granted) things l (Held lease) is))) (record {
         hall = hall_path _ _ refl refl refl (seen-insert (live_of p.granted) things l (Held (lease.0, v))) refl refl refl;
         replied = refl;
         woken = ap wakers_of stands.quiet;
         keeps = alike (insert things l (Held (lease.0, v))) (going_put things l (Held (lease.0, v)) stands.keeps.going tt)
             (at_alike asked things l (Held (lease.0, v)) (ap asked is)) (at_alike held things l (Held (lease.0, v)) (ap held is)) (at_alike awaited things l (Held (lease.0, v)) (ap awaited is));
-      }))
+      })

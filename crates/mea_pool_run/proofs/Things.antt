@@ -124,17 +124,8 @@ below_after things f n below = below_more (remove things f) n (below_gone things
 pub below_moved : (things : Names Thing) (f : ℕ) (t : Thing) (n : ℕ) → AreBelow things n → AreBelow (insert (remove things f) n t) (n + 1)
 below_moved things f t n below = below_put (remove things f) n t (n + 1) (below_after things f n below) (omega arith)
 
-pub below_stays : (things : Names Thing) (f : ℕ) (t u : Thing) (n : ℕ) → get things f ≡ Some t → AreBelow things n → AreBelow (insert (remove things f) f u) n
-below_stays things f t u n is below = below_put (remove things f) f u n (below_gone things f n below) (below_there things f t n below is)
-
--- ---- what is put twice
-
-pub put_over : {X : Type 0} (m : Names X) (k : ℕ) (x : X) → insert (remove m k) k x ≡ insert m k x
-put_over m k x = same_named _ _ (λ q. get_inserted (remove m k) k q x ∙ ap (cond (k == q) (Some x)) (get_removed m k q) ∙ by_test q (k == q) ∙ sym (get_inserted m k q x))
-  where
-    by_test : (q : ℕ) (b : Bool) → cond b (Some x) (cond b None (get m q)) ≡ cond b (Some x) (get m q)
-    by_test q true = refl
-    by_test q false = refl
+pub below_stays : (things : Names Thing) (f : ℕ) (t u : Thing) (n : ℕ) → get things f ≡ Some t → AreBelow things n → AreBelow (insert things f u) n
+below_stays things f t u n is below = below_put things f u n below (below_there things f t n below is)
 
 -- ---- what is seen by name
 

@@ -39,6 +39,7 @@ pub record Outcome : Type 0 where
   pub reply : PoolReply
   pub wakes : List ℕ
 
+-- this hall and this reply, and nobody is woken
 abbrev pub quietly : Hall → PoolReply → Outcome
 quietly s reply = record { hall = s; reply = reply; wakes = [] }
 
@@ -52,6 +53,7 @@ settled_at drained s wakes =
     if drained then record { hall = record s { drains = [] }; reply = Told answer.Done; wakes = wakes ++ wakers s.drains }
     else record { hall = s; reply = Told answer.Done; wakes = wakes }
 
+-- the same, by whether the pool is drained now
 abbrev pub settled : Hall → List ℕ → Outcome
 settled s wakes = settled_at (is_drained s) s wakes
 
@@ -60,6 +62,7 @@ abbrev pub passed_for : Waiting → Hall → Outcome
 passed_for [] s = settled (record s { taken = s.taken - 1 }) []
 passed_for (first ∷ rest) s = settled (record s { waiting = rest; things = insert s.things first.0 (asks true) }) (first.1 ∷ [])
 
+-- the same, by who waits now
 abbrev pub passed_on : Hall → Outcome
 passed_on s = passed_for s.waiting s
 
@@ -67,6 +70,7 @@ passed_on s = passed_for s.waiting s
 abbrev pub drained_at : Bool → Hall → Outcome
 drained_at draining s = if draining then quietly s (Told answer.Done) else settled (record s { waiting = []; draining = true }) (wakers s.waiting)
 
+-- the same, by whether the pool is draining now
 abbrev pub drained : Hall → Outcome
 drained s = drained_at s.draining s
 
@@ -108,18 +112,21 @@ made s n live = quietly (record s { things = insert s.things n live }) (Told ans
 
 -- ---- by what lives under a name
 
+-- what has the name f is polled by line n
 abbrev pub poll_of : Option Live → Hall → ℕ → ℕ → ℕ → Outcome
 poll_of None s n f w = quietly s Unknown
 poll_of (Some (asks granted)) s n f w = polled granted s n f w
 poll_of (Some awaits) s n f w = polled_drain (is_drained s) s f w
 poll_of (Some (leases slot value)) s n f w = quietly s Unknown
 
+-- what has the name f ends
 abbrev pub end_of : Option Live → Hall → ℕ → Outcome
 end_of None s f = quietly s Unknown
 end_of (Some (asks granted)) s f = ended granted s f
 end_of (Some awaits) s f = quietly (record s { things = remove s.things f; drains = without s.drains f }) (Told answer.Done)
 end_of (Some (leases slot value)) s f = quietly s Unknown
 
+-- what has the name l has the resource v now
 abbrev pub use_of : Option Live → Hall → ℕ → ℕ → Outcome
 use_of None s l v = quietly s Unknown
 use_of (Some (asks granted)) s l v = quietly s Unknown

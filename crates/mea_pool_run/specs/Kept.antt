@@ -16,6 +16,7 @@ use Rattle.mea_pool_run.specs.declared.thing.Thing.TheVariants.{Ask, Wait, Held}
 use Rattle.mea_pool_run.specs.Hall.{Live, asks, awaits, leases, Hall, Outcome}
 use Rattle.mea_pool_run.specs.declared.reply.PoolReply.{PoolReply}
 
+-- who waits under numbers, in order, each with its waker
 abbrev pub Numbered : Type 0
 Numbered = List (ℕ × NamedWaker)
 
@@ -124,6 +125,7 @@ pub record Stands (p : Pool ℕ NamedWaker) (things : Names Thing) : Type 0 wher
 abbrev pub AreBelow : Names Thing → ℕ → Type 0
 AreBelow things n = (k : ℕ) → n ≤ k → get things k ≡ None
 
+-- the wakers without the names
 abbrev pub wakers_of : List NamedWaker → List ℕ
 wakers_of ks = map (λ (k : NamedWaker). k.waker) ks
 

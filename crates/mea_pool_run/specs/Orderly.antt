@@ -25,6 +25,7 @@ pub record AreOnce (s : Hall) : Type 0 where
   pub idle : (slot : ℕ) → s.size ≤ slot → times slot (slots_of s.shelf) ≡ 0
   pub lent : (slot f : ℕ) → Leases s slot f → slot < s.size
 
+-- the names of those who wait, in their order
 abbrev pub names : Waiting → List ℕ
 names q = map (λ (e : ℕ × ℕ). e.0) q
 

@@ -51,7 +51,7 @@ impl PoolHall {
             PoolEvent::Ask => self.make(number, Thing::Ask(LeaseWait::New)),
             PoolEvent::Wait => self.make(number, Thing::Wait(DrainWait::New)),
             PoolEvent::Poll(name, waker) => self.poll(number, name, waker),
-            PoolEvent::Use(name, value) => self.set(name, value),
+            PoolEvent::Use(name, value) => Ok(self.set(name, value)),
             PoolEvent::Back(name) => Ok(self.put_back(name)),
             PoolEvent::End(name) => Ok(self.end(name)),
             PoolEvent::Drain => Ok(self.drain()),
@@ -71,103 +71,65 @@ impl PoolHall {
         Ok(PoolReply::Told(Answer::Made))
     }
 
-    // Polls the wait of this name, if it is one.
+    // Polls the wait of this name, if it is one. It is taken out where it is over. A lease that it gets has this number as its
+    // name.
     fn poll(&mut self, number: u64, name: u64, waker: u64) -> Result<PoolReply, NoMemory>
         requires stands { Stands self.old.pool self.old.things }
         requires below { AreBelow self.old.things number }
         ensures goes { IfOk result (λ reply. Goes (poll_of (get (hall_of self.old.pool self.old.things).things name) (hall_of self.old.pool self.old.things) number name waker) self.new.pool self.new.things reply) }
         ensures below { OnOk result (AreBelow self.new.things (number + 1)) }
     {
-        match self.things.get(name) {
-            Some(Thing::Ask(_)) => self.poll_lease(number, name, waker),
-            Some(Thing::Wait(_)) => self.poll_drain(number, name, waker),
-            Some(Thing::Held(_)) => Ok(PoolReply::Unknown),
-            None => Ok(PoolReply::Unknown),
-        }
-    }
-
-    // Polls the wait for a lease of this name. A lease that it gets has this number as its name.
-    fn poll_lease(&mut self, number: u64, name: u64, waker: u64) -> Result<PoolReply, NoMemory>
-        requires stands { Stands self.old.pool self.old.things }
-        requires below { AreBelow self.old.things number }
-        requires asks { (wait : Asking) × (get self.old.things name ≡ Some (Thing.Ask wait)) }
-        ensures goes { IfOk result (λ reply. Goes (poll_of (get (hall_of self.old.pool self.old.things).things name) (hall_of self.old.pool self.old.things) number name waker) self.new.pool self.new.things reply) }
-        ensures below { OnOk result (AreBelow self.new.things (number + 1)) }
-    {
-        let Thing::Ask(mut wait) = self.things.remove(name) else {
-            unreachable!();
-        };
         let named = NamedWaker {
             future: name,
             waker,
         };
-        match self.pool.poll_lease(&mut wait, named) {
-            Ok(LeasePoll::Got(lease)) => {
-                let reply = PoolReply::Leased(lease.slot() as u64, *lease.resource());
-                self.things.insert(number, Thing::Held(lease))?;
-                Ok(reply)
-            }
-            Ok(LeasePoll::Pending) => {
-                self.things.insert(name, Thing::Ask(wait))?;
-                Ok(PoolReply::Told(Answer::Pending))
-            }
-            Ok(LeasePoll::Closed) => Ok(PoolReply::Told(Answer::Gone)),
-            Err(_) => Err(NoMemory),
+        let Some(thing) = self.things.get_mut(name) else {
+            return Ok(PoolReply::Unknown);
+        };
+        match thing {
+            Thing::Ask(wait) => match self.pool.poll_lease(wait, named) {
+                Ok(LeasePoll::Got(lease)) => {
+                    let reply = PoolReply::Leased(lease.slot() as u64, *lease.resource());
+                    let _ = self.things.remove(name);
+                    self.things.insert(number, Thing::Held(lease))?;
+                    Ok(reply)
+                }
+                Ok(LeasePoll::Pending) => Ok(PoolReply::Told(Answer::Pending)),
+                Ok(LeasePoll::Closed) => {
+                    let _ = self.things.remove(name);
+                    Ok(PoolReply::Told(Answer::Gone))
+                }
+                Err(_) => Err(NoMemory),
+            },
+            Thing::Wait(wait) => match self.pool.poll_drained(wait, named) {
+                Ok(Poll::Ready(())) => {
+                    let _ = self.things.remove(name);
+                    Ok(PoolReply::Told(Answer::Ready))
+                }
+                Ok(Poll::Pending) => Ok(PoolReply::Told(Answer::Pending)),
+                Err(_) => Err(NoMemory),
+            },
+            Thing::Held(_) => Ok(PoolReply::Unknown),
         }
     }
 
-    // Polls the wait for the end of the drain of this name.
-    fn poll_drain(&mut self, number: u64, name: u64, waker: u64) -> Result<PoolReply, NoMemory>
+    // The resource of the lease of this name, if it is one, is this value now. It takes no memory.
+    fn set(&mut self, name: u64, value: u64) -> PoolReply
         requires stands { Stands self.old.pool self.old.things }
-        requires below { AreBelow self.old.things number }
-        requires awaits { (wait : Awaiting) × (get self.old.things name ≡ Some (Thing.Wait wait)) }
-        ensures goes { IfOk result (λ reply. Goes (poll_of (get (hall_of self.old.pool self.old.things).things name) (hall_of self.old.pool self.old.things) number name waker) self.new.pool self.new.things reply) }
-        ensures below { OnOk result (AreBelow self.new.things (number + 1)) }
+        ensures goes { Goes (use_of (get (hall_of self.old.pool self.old.things).things name) (hall_of self.old.pool self.old.things) name value) self.new.pool self.new.things result }
+        ensures below { (n : ℕ) → AreBelow self.old.things n → AreBelow self.new.things n }
     {
-        let Thing::Wait(mut wait) = self.things.remove(name) else {
-            unreachable!();
+        let Some(thing) = self.things.get_mut(name) else {
+            return PoolReply::Unknown;
         };
-        let named = NamedWaker {
-            future: name,
-            waker,
-        };
-        match self.pool.poll_drained(&mut wait, named) {
-            Ok(Poll::Ready(())) => Ok(PoolReply::Told(Answer::Ready)),
-            Ok(Poll::Pending) => {
-                self.things.insert(name, Thing::Wait(wait))?;
-                Ok(PoolReply::Told(Answer::Pending))
+        match thing {
+            Thing::Held(lease) => {
+                *lease.resource_mut() = value;
+                PoolReply::Told(Answer::Done)
             }
-            Err(_) => Err(NoMemory),
+            Thing::Ask(_) => PoolReply::Unknown,
+            Thing::Wait(_) => PoolReply::Unknown,
         }
-    }
-
-    // The resource of the lease of this name, if it is one, is this value now.
-    fn set(&mut self, name: u64, value: u64) -> Result<PoolReply, NoMemory>
-        requires stands { Stands self.old.pool self.old.things }
-        ensures goes { IfOk result (λ reply. Goes (use_of (get (hall_of self.old.pool self.old.things).things name) (hall_of self.old.pool self.old.things) name value) self.new.pool self.new.things reply) }
-        ensures below { OnOk result ((n : ℕ) → AreBelow self.old.things n → AreBelow self.new.things n) }
-    {
-        match self.things.get(name) {
-            Some(Thing::Held(_)) => self.set_lease(name, value),
-            Some(Thing::Ask(_)) => Ok(PoolReply::Unknown),
-            Some(Thing::Wait(_)) => Ok(PoolReply::Unknown),
-            None => Ok(PoolReply::Unknown),
-        }
-    }
-
-    // The same of what is known to be a lease.
-    fn set_lease(&mut self, name: u64, value: u64) -> Result<PoolReply, NoMemory>
-        requires stands { Stands self.old.pool self.old.things }
-        requires out { (lease : ℕ × ℕ) × (get self.old.things name ≡ Some (Thing.Held lease)) }
-        ensures goes { IfOk result (λ reply. Goes (use_of (get (hall_of self.old.pool self.old.things).things name) (hall_of self.old.pool self.old.things) name value) self.new.pool self.new.things reply) }
-        ensures below { OnOk result ((n : ℕ) → AreBelow self.old.things n → AreBelow self.new.things n) }
-    {
-        let Thing::Held(mut lease) = self.things.remove(name) else {
-            unreachable!();
-        };
-        *lease.resource_mut() = value;
-        self.things.insert(name, Thing::Held(lease))?;
-        Ok(PoolReply::Told(Answer::Done))
     }
 
     // Puts the lease of this name back, if it is one. It takes no memory.

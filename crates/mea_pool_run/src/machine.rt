@@ -14,20 +14,20 @@ use std::alloc::Global;
 
 /// A pool as the machine of its scripts.
 #[derive(Drop)]
-pub struct Pooling {
+pub struct PoolMachine {
     pub(crate) hall: PoolHall,
     // The wakers of the last event.
     wakes: Vec<u64>,
 }
 
-impl Pooling {
+impl PoolMachine {
     /// A pool of so many numbers, at which nothing was played.
-    pub fn new(alloc: Global, size: usize) -> Result<Pooling, NoMemory>
+    pub fn new(alloc: Global, size: usize) -> Result<PoolMachine, NoMemory>
         ensures state { IfOk result (λ p. hall_of p.hall.pool p.hall.things ≡ begun size) }
         ensures stands { IfOk result (λ p. Stands p.hall.pool p.hall.things × AreBelow p.hall.things 0) }
     {
         let hall = PoolHall::new(alloc, size)?;
-        Ok(Pooling {
+        Ok(PoolMachine {
             hall,
             wakes: Vec::new(alloc),
         })
@@ -54,7 +54,7 @@ impl Pooling {
     }
 }
 
-impl Machine for Pooling {
+impl Machine for PoolMachine {
     type Event = PoolEvent;
 
     ghost use Rattle.mea_pool_run.specs.Hall.{Hall};

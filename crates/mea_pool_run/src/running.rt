@@ -5,7 +5,7 @@ ghost use Rattle.mea_script.specs.Runs.{IsFault, Answers, Tells, IsTakenTo, line
 ghost use Rattle.mea_pool_run.specs.Script.{IsSize, IsPool, IsCommand, pool_of};
 ghost use Rattle.mea_pool_run.specs.Orderly.{AreOrderly};
 
-use crate::machine::Pooling;
+use crate::machine::PoolMachine;
 use mea_io::{Sink, Source};
 use mea_script::{Status, play_script};
 use mea_text::{Numbers, command_numbers};
@@ -94,8 +94,8 @@ fn play<S: Source, K: Sink>(alloc: Global, size: usize, source: &mut S, sink: &m
     ensures taken_to { (script : List ℕ) (n : ℕ) → S.left source.old ≡ Some script → line_of result ≡ Some n
         → (left : List ℕ) × (S.left source.new ≡ Some left) × IsTakenTo n script left }
 {
-    match Pooling::new(alloc, size) {
-        Ok(pool) => play_script(alloc, pool, source, sink),
+    match PoolMachine::new(alloc, size) {
+        Ok(machine) => play_script(alloc, machine, source, sink),
         Err(_) => Status::NoMemory,
     }
 }

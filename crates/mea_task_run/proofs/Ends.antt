@@ -6,13 +6,13 @@ use Rattle.mea_script.specs.declared.status.Status.TheVariants.{Done}
 use Rattle.mea_script.specs.Runs.{IsFault, IsCause}
 use Rattle.mea_script.specs.Told.{told_by}
 use Rattle.mea_task_core.specs.Machine.{new_machine}
-use Rattle.mea_task_run.specs.declared.program.TaskProgram.{TaskProgram}
-use Rattle.mea_task_run.specs.Program.{program_of, steps_in, task_rules, tasks_of}
+use Rattle.mea_task_run.specs.declared.machine.TaskMachine.{TaskMachine}
+use Rattle.mea_task_run.specs.Machine.{program_of, steps_in, task_rules, tasks_of}
 use Rattle.mea_task_run.specs.Rests.{TellsRest}
 use Rattle.mea_task_run.proofs.Rests.{tasks_rest}
 
--- a program at its start tells of a script what is told of it
-pub told_new : (p : TaskProgram) (script : List ℕ) → p.executor ≡ new_machine → p.latest ≡ None → told_by task_rules (program_of p) script ≡ tasks_of script
+-- a machine of scripts at its start tells of a script what is told of it
+pub told_new : (p : TaskMachine) (script : List ℕ) → p.executor ≡ new_machine → p.latest ≡ None → told_by task_rules (program_of p) script ≡ tasks_of script
 told_new p script executor latest = λ j. told_by task_rules (record { machine = executor j; latest = steps_in (latest j) }) script
 
 -- where the status is that of the end of the input, the text tells of a machine at rest

@@ -7,7 +7,7 @@ use Rattle.mea_task_core.specs.declared.faults.AddFault.{AddFault}
 use Rattle.mea_task_core.specs.declared.faults.AddFault.TheVariants as faults
 use Rattle.mea_task_core.specs.Machine.{Machine}
 use Rattle.mea_task_core.specs.Adding.{first_unknown, IsFault}
-use Rattle.mea_task_run.specs.Program.{AreKnown, steps_in}
+use Rattle.mea_task_run.specs.Machine.{AreKnown, steps_in}
 use Rattle.mea_task_run.proofs.Known.{none_unknown}
 
 pub not_unknown : (m : Machine) (latest : Option (Vec Step)) (steps : Vec Step) (fault : AddFault) (k : ℕ) (back : Vec Step) → latest ≡ Some steps

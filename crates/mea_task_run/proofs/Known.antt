@@ -6,7 +6,7 @@ use Rattle.mea_task_core.specs.declared.step.Step.{Step}
 use Rattle.mea_task_core.specs.declared.step.Step.TheVariants.{Take, Give, Yield}
 use Rattle.mea_task_core.specs.Machine.{Machine}
 use Rattle.mea_task_core.specs.Adding.{is_known, first_unknown}
-use Rattle.mea_task_run.specs.Program.{AreKnown, with_step}
+use Rattle.mea_task_run.specs.Machine.{AreKnown, with_step}
 
 -- ---- one more semaphore
 known_more : (count : ℕ) (s : Step) → is_known count s ≡ true → is_known (count + 1) s ≡ true

@@ -17,10 +17,10 @@ use Rattle.mea_task_core.specs.Sound.{IsSound}
 use Rattle.mea_task_core.proofs.Adds.{sound_with_semaphore, sound_with_task}
 use Rattle.mea_task_core.proofs.Ends.{sound_new, run_out_rests, settled, few_polls}
 use Rattle.mea_task_core.proofs.Moves.{sound_moves}
-use Rattle.mea_task_run.specs.declared.line.TaskLine.{TaskLine}
-use Rattle.mea_task_run.specs.declared.line.TaskLine.TheVariants.{Sem, Task, Step}
-use Rattle.mea_task_run.specs.Lines.{line_of}
-use Rattle.mea_task_run.specs.Program.{Program, new_program, takes, event_of, after, with_latest, whole, size_of, AreKnown, StandsAt, task_rules, tasks_of}
+use Rattle.mea_task_run.specs.declared.event.TaskEvent.{TaskEvent}
+use Rattle.mea_task_run.specs.declared.event.TaskEvent.TheVariants.{Sem, Task, Step}
+use Rattle.mea_task_run.specs.Lines.{event_of}
+use Rattle.mea_task_run.specs.Machine.{Program, new_program, takes, event_in, after, with_latest, whole, size_of, AreKnown, StandsAt, task_rules, tasks_of}
 use Rattle.mea_task_run.specs.Rests.{TellsRest}
 use Rattle.mea_task_run.specs.Spelling.{Fits}
 use Rattle.mea_task_run.proofs.Known.{none_unknown}
@@ -32,24 +32,24 @@ sound_latest : (m : Machine) (latest : Option (List TaskStep)) → IsSound m →
 sound_latest m None s known few = s
 sound_latest m (Some steps) s known few = sound_with_task m steps s (record { known = none_unknown m steps known; few = few })
 
-sound_after : (p : Program) (n : ℕ) (l : TaskLine) → IsSound p.machine → StandsAt p n → n ≤ 2 ^ 25 → Fits l → IsSound (after p l).machine
+sound_after : (p : Program) (n : ℕ) (e : TaskEvent) → IsSound p.machine → StandsAt p n → n ≤ 2 ^ 25 → Fits e → IsSound (after p e).machine
 sound_after p n (Sem permits) s stands few fits = sound_with_semaphore p.machine permits s fits.0 (let events = stands.events in omega (arith, events, few))
 sound_after p n Task s stands few fits = sound_latest p.machine p.latest s stands.known (let added = stands.added in omega (arith, added, few))
 sound_after p n (Step step) s stands few fits = s
 
 -- ---- the events of lines
-fits_only : (p : Program) (line : List ℕ) (l : TaskLine) → event_of p line ≡ Some l → Fits l
-fits_only p line l is = option_and_then_some (λ k. if takes p k then Some k else None) (line_of line) l is (λ k read made. by_test k (takes p k) read made)
+fits_only : (p : Program) (line : List ℕ) (e : TaskEvent) → event_in p line ≡ Some e → Fits e
+fits_only p line e is = option_and_then_some (λ k. if takes p k then Some k else None) (event_of line) e is (λ k read made. by_test k (takes p k) read made)
   where
-    by_test : (k : TaskLine) (b : Bool) → line_of line ≡ Some k → (if b then Some k else None) ≡ Some l → Fits l
-    by_test k true read made = subst Fits (some_same k l made) (spelling_only line k read).1
+    by_test : (k : TaskEvent) (b : Bool) → event_of line ≡ Some k → (if b then Some k else None) ≡ Some e → Fits e
+    by_test k true read made = subst Fits (some_same k e made) (spelling_only line k read).1
     by_test k false read made = absurd (cc)
 
-event_only : (p : Program) (line : List ℕ) (l : TaskLine) → event_at task_rules p line ≡ Some l → event_of p line ≡ Some l
+event_only : (p : Program) (line : List ℕ) (e : TaskEvent) → event_at task_rules p line ≡ Some e → event_in p line ≡ Some e
 unfolding task_rules
-event_only p line l is = by_test (nat_lt 96 (length line)) is
+event_only p line e is = by_test (nat_lt 96 (length line)) is
   where
-    by_test : (b : Bool) → (if b then None else event_of p line) ≡ Some l → event_of p line ≡ Some l
+    by_test : (b : Bool) → (if b then None else event_in p line) ≡ Some e → event_in p line ≡ Some e
     by_test true is = absurd (cc)
     by_test false is = is
 
@@ -75,16 +75,16 @@ unfolding task_rules
 rests_from [] true p n s stands few done = absurd (cc)
 rests_from [] false p n s stands few done = rests_whole p n n s stands (omega (arith, few))
 rests_from (line ∷ lines) long p n s stands few done =
-    by_event (event_at task_rules p line) refl done (λ l event ended.
+    by_event (event_at task_rules p line) refl done (λ e event ended.
     let long_by_one : length (line ∷ lines) ≡ length lines + 1 = omega arith in
-    rests_from lines long (after p l) (n + 1) (sound_after p n l s stands (omega (arith, few)) (fits_only p line l event))
-    (stands_after p n l stands (event_takes p l (line, event))) (omega (arith, few, long_by_one)) ended)
+    rests_from lines long (after p e) (n + 1) (sound_after p n e s stands (omega (arith, few)) (fits_only p line e event))
+    (stands_after p n e stands (event_takes p e (line, event))) (omega (arith, few, long_by_one)) ended)
   where
-    by_event : (o : Option TaskLine) → event_at task_rules p line ≡ o → (told_line task_rules p n o (λ a. told_from task_rules long a (n + 1) lines)).status ≡ Done
-        → ((l : TaskLine) → event_of p line ≡ Some l → (told_from task_rules long (after p l) (n + 1) lines).status ≡ Done → TellsRest (told_from task_rules long (after p l) (n + 1) lines))
+    by_event : (o : Option TaskEvent) → event_at task_rules p line ≡ o → (told_line task_rules p n o (λ a. told_from task_rules long a (n + 1) lines)).status ≡ Done
+        → ((e : TaskEvent) → event_in p line ≡ Some e → (told_from task_rules long (after p e) (n + 1) lines).status ≡ Done → TellsRest (told_from task_rules long (after p e) (n + 1) lines))
         → TellsRest (told_line task_rules p n o (λ a. told_from task_rules long a (n + 1) lines))
     by_event None is ended next = absurd (cc)
-    by_event (Some l) is ended next = next l (event_only p line l is) ended
+    by_event (Some e) is ended next = next e (event_only p line e is) ended
 
 -- ---- a script has few lines
 last_one : (cut : Bool) (piece : List ℕ) → length (last_line cut piece) ≤ 1

@@ -1,6 +1,6 @@
 pub mod Lines
 pub mod Spelling
 pub mod Results
-pub mod Program
+pub mod Machine
 pub mod Rests
 pub mod Words

@@ -29,11 +29,14 @@ task_text t state = codes "task" ++ number_text t ++ state_text state ++ codes "
 abbrev pub account_text : Machine → ℕ → List ℕ
 account_text m s = reply_text (Account (ledger_of m.hall (name_of m s))) []
 
+-- the lines of the tasks
 abbrev pub tasks_text : Machine → List ℕ
 tasks_text m = texts_below (λ t. task_text t (state_at (slice_get m.tasks t))) (length m.tasks)
 
+-- the lines of the semaphores
 abbrev pub accounts_text : Machine → List ℕ
 accounts_text m = texts_below (account_text m) (length m.semaphores)
 
+-- the whole text
 unfoldable pub results : Machine → List ℕ
 results m = tasks_text m ++ counted_line (codes "polls") m.polls ++ accounts_text m

@@ -6,11 +6,11 @@ use Rattle.mea_text.specs.Number.{AreFit}
 use Rattle.mea_text.specs.Text.{numbers_text}
 use Rattle.mea_text.specs.Words.{listed}
 use Rattle.mea_task_core.specs.declared.step.Step.TheVariants as steps
-use Rattle.mea_task_run.specs.declared.line.TaskLine.{TaskLine}
-use Rattle.mea_task_run.specs.declared.line.TaskLine.TheVariants.{Sem, Task, Step}
+use Rattle.mea_task_run.specs.declared.event.TaskEvent.{TaskEvent}
+use Rattle.mea_task_run.specs.declared.event.TaskEvent.TheVariants.{Sem, Task, Step}
 
 -- its word, and the numbers after it in their order
-abbrev pub said : TaskLine → List ℕ × Numbers
+abbrev pub said : TaskEvent → List ℕ × Numbers
 said (Sem n) = (codes "sem", One n)
 said Task = (codes "task", Bare)
 said (Step (steps.Take s n)) = (codes "take", Two s n)
@@ -18,9 +18,9 @@ said (Step (steps.Give s n)) = (codes "give", Two s n)
 said (Step steps.Yield) = (codes "yield", Bare)
 
 -- a word, and each number in decimal after a space
-abbrev pub spelling : TaskLine → List ℕ
-spelling l = (said l).0 ++ numbers_text (listed (said l).1)
+abbrev pub spelling : TaskEvent → List ℕ
+spelling e = (said e).0 ++ numbers_text (listed (said e).1)
 
 -- each number fits its type
-abbrev pub Fits : TaskLine → Type 0
-Fits l = AreFit (listed (said l).1)
+abbrev pub Fits : TaskEvent → Type 0
+Fits e = AreFit (listed (said e).1)

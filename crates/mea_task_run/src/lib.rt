@@ -2,11 +2,13 @@
 //! executor of `mea_task_core` and the text tells what has become of each. The scripts are read by `mea_script`.
 #![tactic(auto)]
 
-mod line;
-mod program;
+mod event;
+mod lines;
+mod machine;
 mod results;
 mod running;
 
-pub use line::{TaskLine, line_of, lines_have_one_spelling};
-pub use program::TaskProgram;
+pub use event::TaskEvent;
+pub use lines::{event_of_line, lines_have_one_spelling};
+pub use machine::TaskMachine;
 pub use running::run_tasks;

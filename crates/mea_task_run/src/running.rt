@@ -2,11 +2,11 @@ ghost use Rattle.std.specs.Prelude.{◌≡◌, ◌≢◌, ◌↔◌, ◌⊎◌, 
 ghost use Rattle.mea_family.specs.declared.stop.Stop.{Stop as Why};
 ghost use Rattle.mea_io.specs.Bytes.{Rose};
 ghost use Rattle.mea_script.specs.Runs.{IsFault, Answers, Tells, IsTakenTo, line_of};
-ghost use Rattle.mea_task_run.specs.Program.{tasks_of};
+ghost use Rattle.mea_task_run.specs.Machine.{tasks_of};
 ghost use Rattle.mea_task_run.specs.Rests.{TellsRest};
 ghost use Rattle.mea_task_run.specs.Words.{IsTasks};
 
-use crate::program::TaskProgram;
+use crate::machine::TaskMachine;
 use mea_io::{Sink, Source};
 use mea_script::{Status, play_script};
 use std::alloc::Global;
@@ -47,8 +47,8 @@ pub fn run_tasks<S: Source, K: Sink>(
     if !is_tasks(words) {
         return Status::Usage;
     }
-    let program = TaskProgram::new(alloc);
-    play_script(alloc, program, source, sink)
+    let machine = TaskMachine::new(alloc);
+    play_script(alloc, machine, source, sink)
 }
 
 // Whether the words are the one word `tasks`.

@@ -46,13 +46,18 @@ impl Room {
     pub(crate) fn new(
         alloc: Global,
         permits: usize,
-        waiting: usize,
+        most_queued: usize,
         results: usize,
     ) -> Option<Room> {
-        if permits == 0 || waiting == 0 || results == 0 || permits > 1000 || waiting > 1000 {
+        if permits == 0
+            || most_queued == 0
+            || results == 0
+            || permits > 1000
+            || most_queued > 1000
+        {
             return None;
         }
-        match JobCore::new(alloc, permits, waiting, results) {
+        match JobCore::new(alloc, permits, most_queued, results) {
             Ok(core) => Some(Room { core }),
             Err(_) => None,
         }

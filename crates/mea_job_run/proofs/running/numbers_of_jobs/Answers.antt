@@ -6,15 +6,15 @@ use Rattle.mea_job_run.proofs.running.numbers_of_jobs.Goals as goal
 
 pub returns-in_err-permits : goal.returns-in_err-permits
 returns-in_err-permits c = record {
-  jobs = λ permits waiting results.
+  jobs = λ permits most_queued results.
       let none : c.from_residual.result ≡ None = search rules in
-      let jobs = no_jobs (map string_bytes c.args.words.now) c.command_numbers.result c.command_numbers.ensures (λ a b d is. absurd (let no : ◌≡◌ {A = Option Numbers} None (Some (Three a b d)) = sym c.in_err-permits.was ∙ is in cc)) permits waiting results in
+      let jobs = no_jobs (map string_bytes c.args.words.now) c.command_numbers.result c.command_numbers.ensures (λ a b d is. absurd (let no : ◌≡◌ {A = Option Numbers} None (Some (Three a b d)) = sym c.in_err-permits.was ∙ is in cc)) permits most_queued results in
       (λ is. jobs.0 (sym none ∙ is), λ is. none ∙ jobs.1 is);
 }
 
 pub returns-in-Three : goal.returns-in-Three
 returns-in-Three c = record {
-  jobs = jobs_of (map string_bytes c.args.words.now) c.command_numbers.result c.command_numbers.ensures c.in-Three.permits c.in-Three.waiting c.in-Three.results
+  jobs = jobs_of (map string_bytes c.args.words.now) c.command_numbers.result c.command_numbers.ensures c.in-Three.permits c.in-Three.most_queued c.in-Three.results
       (c.in_ok-permits.was ∙ ap (λ (n : Numbers). Some n) c.in-Three.is) c.in_range.result c.in_range.ensures.range c.in_range.ensures.all;
 }
 

@@ -1,11 +1,9 @@
-use Rattle.std.proofs.Common.{◌≡◌, ◌<◌, ap, sym, subst, refl, ◌∙◌, arith, take, length}
+use Rattle.std.proofs.Common.{◌<◌, ap, sym, subst, refl, ◌∙◌, arith, take, length}
 use Rattle.std.proofs.lemmas.Grind.{common_steps}
 use Rattle.mea_script.specs.Lines.{is_long}
-use Rattle.mea_marks.specs.declared.ending.Ending.TheVariants.{Whole}
 use Rattle.mea_marks.specs.Marks.{board_of}
-use Rattle.mea_marks.specs.Script.{Shown, seen, ended}
-use Rattle.mea_marks.proofs.Lines.{at_start, line_goes, line_ends, is_too_long, is_short, shown_long, shown_empty, shown_last}
-use Rattle.mea_marks.proofs.Steps.{ended_alike}
+use Rattle.mea_marks.specs.Script.{Shown, seen}
+use Rattle.mea_marks.proofs.Lines.{at_start, ended_alike, line_goes, line_ends, is_too_long, is_short, shown_long, shown_last}
 use Rattle.mea_marks.proofs.reading.show.Goals as goal
 
 pub loop-line-init : goal.loop-line-init

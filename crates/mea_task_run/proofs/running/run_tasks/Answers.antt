@@ -10,17 +10,17 @@ returns-clause-stopped g c = λ at cause is. no_cause cause (c.play_script.ensur
 
 pub returns-clause-status : goal.returns-clause-status
 returns-clause-status g c = λ script words h.
-    let told = told_new c.new-program.result script c.new-program.ensures.executor c.new-program.ensures.latest in
+    let told = told_new c.new-machine.result script c.new-machine.ensures.executor c.new-machine.ensures.latest in
     subst (λ (t : Told). IsFault c.play_script.result ⊎ (c.play_script.result ≡ t.status)) told (c.play_script.ensures.status script h)
 
 pub returns-clause-text : goal.returns-clause-text
 returns-clause-text g c = λ script before words h taken.
-    let told = told_new c.new-program.result script c.new-program.ensures.executor c.new-program.ensures.latest in
+    let told = told_new c.new-machine.result script c.new-machine.ensures.executor c.new-machine.ensures.latest in
     subst (λ (t : Told). Tells t c.play_script.result before (g.K.Sink.taken c.play_script.new.sink)) told (c.play_script.ensures.text script before h taken)
 
 pub returns-clause-whole : goal.returns-clause-whole
 returns-clause-whole g c = λ script before words h taken no_reads no_writes.
-    let told = told_new c.new-program.result script c.new-program.ensures.executor c.new-program.ensures.latest in
+    let told = told_new c.new-machine.result script c.new-machine.ensures.executor c.new-machine.ensures.latest in
     subst (λ (t : Told). (c.play_script.result ≡ statuses.NoMemory) ⊎ Answers t c.play_script.result before (g.K.Sink.taken c.play_script.new.sink)) told
     (c.play_script.ensures.whole script before h taken no_reads no_writes)
 

@@ -14,7 +14,7 @@ invariant_of-self-2 g c =
       quiet = went.quiet;
       shut = both.0;
       only = both.1;
-      counted = ended_counted s.work.seen c.end-started.new.self.seen c.args.job s.waiting s.next s.finished s.returned c.end-started.ensures.ends c.end-started.ensures.fewer c.self.invariant.counted;
+      counted = ended_counted s.work.seen c.end-started.new.self.seen c.args.job s.most_queued s.next s.finished s.returned c.end-started.ensures.ends c.end-started.ensures.fewer c.self.invariant.counted;
       asked = omega (arith, c.end-started.ensures.asked, c.self.invariant.asked);
     }
 

@@ -9,6 +9,6 @@ invariant_of-result g c = record {
   quiet = subst (λ d. IsQuiet d) (sym c.in_ok-results.ensures) (record { senders = refl; lives = refl; waker = refl; waiting = refl; wakes = refl });
   shut = shut_new c.new-shutdown.result c.new-work.result.seen c.args.permits c.new-shutdown.ensures c.new-work.ensures.is;
   only = only_new c.new-shutdown.result c.new-end.result c.new-shutdown.ensures c.new-end.ensures;
-  counted = counted_new c.new-work.result.seen c.args.permits c.args.waiting c.new-work.ensures.is c.requires.few;
+  counted = counted_new c.new-work.result.seen c.args.permits c.args.most_queued c.new-work.ensures.is c.requires.few;
   asked = omega (arith, c.new-work.ensures.asked);
 }

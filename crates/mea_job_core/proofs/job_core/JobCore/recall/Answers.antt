@@ -30,7 +30,7 @@ invariant_of-self g c =
       quiet = c.self.invariant.quiet;
       shut = both.0;
       only = both.1;
-      counted = subst (λ v. IsCounted v s.waiting s.next s.finished (s.returned + 1)) (sym did) (recalled_counted s.work.seen c.args.job s.waiting s.next s.finished s.returned some still c.self.invariant.counted);
+      counted = subst (λ v. IsCounted v s.most_queued s.next s.finished (s.returned + 1)) (sym did) (recalled_counted s.work.seen c.args.job s.most_queued s.next s.finished s.returned some still c.self.invariant.counted);
       asked = omega (arith, c.recall-value.ensures.asked, c.self.invariant.asked);
     }
 

@@ -13,6 +13,6 @@ invariant_of-self g c =
       quiet = c.self.invariant.quiet;
       shut = both.0;
       only = both.1;
-      counted = halted_counted s.work.seen c.halt.new.self.seen c.queued-queued.result s.waiting s.next s.finished s.returned c.halt.ensures.halts c.queued-queued.ensures c.self.invariant.counted;
+      counted = halted_counted s.work.seen c.halt.new.self.seen c.queued-queued.result s.most_queued s.next s.finished s.returned c.halt.ensures.halts c.queued-queued.ensures c.self.invariant.counted;
       asked = omega (arith, c.halt.ensures.asked, c.self.invariant.asked);
     }

@@ -15,12 +15,12 @@ invariant_of-self-2 g c =
     let still = sym c.is_stopped.ensures ∙ c.if-is_stopped.false in
     let did = c.in-Ok.ensures.ok.1 in
     let more = c.in-Ok-add_receiver.ensures.ok in
-    let room : free_of s.work.seen ≡ 0 → len s.work.seen.queued ≡ s.waiting → ⊥ =
+    let room : free_of s.work.seen ≡ 0 → len s.work.seen.queued ≡ s.most_queued → ⊥ =
     λ none full. elim c.else-free-eq0.branch [ else-free-eq0-via-then-free-eq0+else-queued-self w ↦ omega (arith, none, full) | else-free-eq0-via-else-free-eq0 w ↦ omega (arith, none, full, c.free.ensures.is) ] in
     record {
       quiet = c.self.invariant.quiet;
       shut = shut_more s.shutdown c.add_receiver.new.self s.work.seen c.accept.new.self.seen c.args.number c.args.key c.args.value (later_above s.work.seen s.next c.args.number le c.self.invariant.counted.above) did more c.self.invariant.shut;
       only = subst (λ (t : Shutdown _). IsOnly t.receivers.waiting s.end) (sym more) c.self.invariant.only;
-      counted = accepted_counted s.work.seen c.args.number c.args.key c.args.value c.accept.new.self.seen s.waiting s.next s.finished s.returned did le c.requires.1 room still c.self.invariant.counted;
+      counted = accepted_counted s.work.seen c.args.number c.args.key c.args.value c.accept.new.self.seen s.most_queued s.next s.finished s.returned did le c.requires.1 room still c.self.invariant.counted;
       asked = omega (arith, c.accept.ensures.asked, c.self.invariant.asked, le);
     }

@@ -1,17 +1,14 @@
-use Rattle.std.proofs.Common.{ℕ, ◌+◌, ap, sym, ◌∙◌}
-use Rattle.std.proofs.lemmas.Result.{on_ok_weaker}
+use Rattle.std.proofs.Common.{◌+◌, ap, sym, ◌∙◌}
 use Rattle.mea_pool_run.specs.declared.event.PoolEvent.{PoolEvent}
 use Rattle.mea_pool_run.specs.Hall.{outcome, quietly}
-use Rattle.mea_pool_run.specs.Kept.{hall_of, AreBelow}
+use Rattle.mea_pool_run.specs.Kept.{hall_of}
 use Rattle.mea_pool_run.proofs.Events.{below_as}
 use Rattle.mea_pool_run.proofs.Still.{nothing_changes}
 use Rattle.mea_pool_run.proofs.Things.{below_more}
 use Rattle.mea_pool_run.proofs.hall.PoolHall.play.Goals as goal
 
 pub returns-in-Use-clause-below : goal.returns-in-Use-clause-below
-returns-in-Use-clause-below c =
-    on_ok_weaker c.set.result (λ (all : (n : ℕ) → AreBelow c.args.self.now.things n → AreBelow c.set.new.self.things n).
-    all (c.args.number + 1) (below_more c.args.self.now.things c.args.number c.requires.below)) c.set.ensures.below
+returns-in-Use-clause-below c = c.set.ensures.below (c.args.number + 1) (below_more c.args.self.now.things c.args.number c.requires.below)
 
 pub returns-in-Back-clause-below : goal.returns-in-Back-clause-below
 returns-in-Back-clause-below c = c.put_back.ensures.below (c.args.number + 1) (below_more c.args.self.now.things c.args.number c.requires.below)

@@ -1,6 +1,6 @@
 use Rattle.std.proofs.Common.{◌≡◌, ◌++◌, [], length}
 use Rattle.mea_hall.specs.World.{Play}
-use Rattle.mea_draw.proofs.halls.take_wakes.Given as goal
+use Rattle.mea_draw.proofs.machine.take_wakes.Given as goal
 
 -- what was taken and what is still there are what there was
 abbrev pub invariant-loop-waker : goal.invariant-loop-waker

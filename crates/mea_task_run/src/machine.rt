@@ -1,9 +1,10 @@
 ghost use Rattle.std.specs.Prelude.{◌≡◌, ◌+◌, ◌<◌, ◌≤◌, ◌^◌, None, length, OnOk};
 ghost use Rattle.mea_task_core.specs.Adding.{with_semaphore};
 ghost use Rattle.mea_task_core.specs.Machine.{new_machine};
-ghost use Rattle.mea_task_run.specs.Program.{AreKnown, size_of, steps_in, program_of, takes, with_latest, with_step};
+ghost use Rattle.mea_task_run.specs.Machine.{AreKnown, size_of, steps_in, program_of, takes, with_latest, with_step};
 
-use crate::line::{TaskLine, line_of};
+use crate::event::TaskEvent;
+use crate::lines::event_of_line;
 use crate::results::put_results;
 use mea_base::NoMemory;
 use mea_family::Stop;
@@ -13,44 +14,44 @@ use std::alloc::Global;
 
 /// A program of tasks as the machine of scripts: its lines add to an executor, which runs at the end of the input.
 #[derive(Drop)]
-pub struct TaskProgram {
+pub struct TaskMachine {
     executor: Executor,
     // The steps of the latest task, which is added when they are all there.
     latest: Option<Vec<Step>>,
     alloc: Global,
 }
 
-impl TaskProgram {
+impl TaskMachine {
     /// No semaphore and no task. It takes no memory.
-    pub fn new(alloc: Global) -> TaskProgram
+    pub fn new(alloc: Global) -> TaskMachine
         ensures executor { result.executor ≡ new_machine }
         ensures latest { result.latest ≡ None }
     {
-        TaskProgram {
+        TaskMachine {
             executor: Executor::new(alloc),
             latest: None,
             alloc,
         }
     }
 
-    // Whether a line is one here: a step needs a task, and the semaphore that it means.
-    fn takes(&self, line: &TaskLine) -> bool
-        ensures { result ≡ takes (program_of self.now) line.now }
+    // Whether an event is one here: a step needs a task, and the semaphore that it means.
+    fn takes(&self, event: &TaskEvent) -> bool
+        ensures { result ≡ takes (program_of self.now) event.now }
     {
-        match line {
-            TaskLine::Sem(_) | TaskLine::Task => true,
-            TaskLine::Step(step) => {
+        match event {
+            TaskEvent::Sem(_) | TaskEvent::Task => true,
+            TaskEvent::Step(step) => {
                 self.latest.is_some() && step.is_known(self.executor.semaphores())
             }
         }
     }
 }
 
-#[tactic(auto, unfolding(crate::specs::Program::task_rules))]
-impl Machine for TaskProgram {
-    type Event = TaskLine;
+#[tactic(auto, unfolding(crate::specs::Machine::task_rules))]
+impl Machine for TaskMachine {
+    type Event = TaskEvent;
 
-    ghost use Rattle.mea_task_run.specs.Program.{Program, program_of, task_rules, StandsAt};
+    ghost use Rattle.mea_task_run.specs.Machine.{Program, program_of, task_rules, StandsAt};
 
     ghost State = { Program };
 
@@ -60,19 +61,23 @@ impl Machine for TaskProgram {
 
     ghost stands_at = { λ p n. StandsAt (program_of p) n };
 
-    fn event_of_line(&self, line: &[u8]) -> Option<TaskLine> {
-        let line = line_of(line)?;
-        if self.takes(&line) { Some(line) } else { None }
+    fn event_of_line(&self, line: &[u8]) -> Option<TaskEvent> {
+        let event = event_of_line(line)?;
+        if self.takes(&event) {
+            Some(event)
+        } else {
+            None
+        }
     }
 
-    fn play(&mut self, _number: u64, event: &TaskLine, _text: &mut Vec<u8>) -> Result<(), Stop> {
+    fn play(&mut self, _number: u64, event: &TaskEvent, _text: &mut Vec<u8>) -> Result<(), Stop> {
         let played = match event {
-            TaskLine::Sem(permits) => add_semaphore(&mut self.executor, *permits),
-            TaskLine::Task => {
+            TaskEvent::Sem(permits) => add_semaphore(&mut self.executor, *permits),
+            TaskEvent::Task => {
                 let latest = self.latest.replace(Vec::new(self.alloc));
                 add_latest(&mut self.executor, latest)
             }
-            TaskLine::Step(step) => add_step(&mut self.latest, *step),
+            TaskEvent::Step(step) => add_step(&mut self.latest, *step),
         };
         match played {
             Ok(()) => Ok(()),

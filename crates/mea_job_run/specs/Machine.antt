@@ -27,6 +27,7 @@ call_of n Count = call.Counts
 abbrev pub after_call : Record ℕ → Call ℕ → Record ℕ
 after_call r c = record (called r c) { wakes = [] }
 
+-- the reply to a call, with the waker that it made ready
 abbrev pub reply_in : Record ℕ → Call ℕ → List ℕ
 reply_in r c = reply_text (answer_in r c) (first_waker (called r c).wakes)
 
@@ -42,15 +43,17 @@ job_rules = record {
 
 -- what a script is answered by a service of so many permits, queued jobs and results
 abbrev pub jobs_told : ℕ → ℕ → ℕ → List ℕ → Told
-jobs_told permits waiting results script = told_by job_rules (new_record permits waiting results) script
+jobs_told permits most_queued results script = told_by job_rules (new_record permits most_queued results) script
 
 -- ---- the same by what a core keeps
 abbrev pub left_by : Service ℕ → Call ℕ → Service ℕ
 left_by s c = record (called_on s c) { wakes = [] }
 
+-- the reply to it
 abbrev pub reply_of : Service ℕ → Call ℕ → List ℕ
 reply_of s c = reply_text (answer_of s c) (first_waker (called_on s c).wakes)
 
+-- no event is refused, and nothing is told at the end
 unfoldable pub core_rules : Rules (Service ℕ) JobEvent
 core_rules = record {
   event = λ s line. event_of line;

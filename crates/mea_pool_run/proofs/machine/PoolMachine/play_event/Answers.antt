@@ -1,6 +1,6 @@
 use Rattle.std.proofs.Common.{◌+◌, ◌∙◌}
 use Rattle.mea_pool_run.proofs.Events.{whatever, next_hall, next_stands, next_text, below_as}
-use Rattle.mea_pool_run.proofs.machine.Pooling.play_event.Goals as goal
+use Rattle.mea_pool_run.proofs.machine.PoolMachine.play_event.Goals as goal
 
 pub returns-clause-next : goal.returns-clause-next
 returns-clause-next c =

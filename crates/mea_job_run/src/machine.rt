@@ -2,7 +2,7 @@ ghost use Rattle.std.specs.Prelude.{◌≡◌, ◌≤◌, ◌<◌, ◌++◌, [],
 ghost use Rattle.mea_job_core.specs.Calls as call;
 ghost use Rattle.mea_job_core.specs.Calls.{AddsAtMostOne};
 ghost use Rattle.mea_job_core.specs.Service.{first_waker};
-ghost use Rattle.mea_job_run.specs.Rules.{call_of, left_by, reply_of};
+ghost use Rattle.mea_job_run.specs.Machine.{call_of, left_by, reply_of};
 
 use crate::event::JobEvent;
 use crate::lines::event_of_line;
@@ -17,17 +17,17 @@ use mea_text::put_text;
 
 /// A job service as the machine of scripts.
 #[derive(Drop)]
-pub struct JobService {
+pub struct JobMachine {
     pub core: JobCore<u64>,
 }
 
-#[tactic(auto, unfolding(crate::specs::Rules::core_rules))]
-impl Machine for JobService {
+#[tactic(auto, unfolding(crate::specs::Machine::core_rules))]
+impl Machine for JobMachine {
     type Event = JobEvent;
 
     ghost use Rattle.std.specs.Prelude.{ℕ, ◌≡◌, ◌≤◌, []};
     ghost use Rattle.mea_job_core.specs.Service.{Service};
-    ghost use Rattle.mea_job_run.specs.Rules.{core_rules};
+    ghost use Rattle.mea_job_run.specs.Machine.{core_rules};
 
     ghost State = { Service ℕ };
 

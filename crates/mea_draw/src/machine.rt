@@ -10,23 +10,23 @@ use std::alloc::Global;
 
 /// All families, whose events are drawn.
 #[derive(Drop)]
-pub struct Halls {
+pub struct DrawMachine {
     hall: Hall,
 }
 
-impl Halls {
+impl DrawMachine {
     /// Nothing was played. It takes no memory.
-    pub fn new(alloc: Global) -> Halls
+    pub fn new(alloc: Global) -> DrawMachine
         ensures { result.hall ≡ record { world = empty_world; wakes = []; events = 0 } }
     {
-        Halls {
+        DrawMachine {
             hall: Hall::new(alloc),
         }
     }
 }
 
 #[tactic(auto, unfolding(crate::specs::Drawing::hall_steps))]
-impl Playing for Halls {
+impl Playing for DrawMachine {
     ghost use Rattle.std.specs.Prelude.{◌≡◌, []};
     ghost use Rattle.mea_hall.specs.World.{World};
     ghost use Rattle.mea_draw.specs.Drawing.{hall_steps};
