@@ -1,27 +1,28 @@
-//! The program `mea_bench_halls`: plays rounds of events of semaphores, meeting points and locks on the halls, and prints how many
-//! nanoseconds one event took. It tells nothing of the replies: what they are is what `mea_hall` promises.
+//! The program `mea_bench_halls`: plays rounds of events of each family on the halls, and prints how many nanoseconds one event
+//! took. It tells nothing of the replies: what they are is what `mea_hall` promises.
 //!
 //!     mea_bench_halls ROUNDS
+//!     mea_bench_halls ROUNDS WORK      writes the script of a work, a name of the report, for other programs to play
 //!
 //! It ends with status 0, or with 6 where there was no memory, 5 where a write failed, 4 where the clock failed, and 7
-//! where the words are not one number from 1 to 1000000; then nothing is written.
+//! where the words are not a number from 1 to 100000 and at most one name; then nothing is written.
 #![tactic(auto)]
 
 mod measure;
-mod workload;
+mod works;
 
 use crate::measure::{Fault, nanoseconds_per_event};
-use crate::workload::WORKLOADS;
+use crate::works::{WORKS, script_of};
 use mea_text::number_of;
 use std::process::ExitCode;
 use std::{env, io};
 
-/// The most rounds that are played of a workload.
-const MOST_ROUNDS: u64 = 1_000_000;
+/// The most rounds that are played of a work.
+const MOST_ROUNDS: u64 = 100_000;
 
 fn main(rt: HostRuntime) -> ExitCode {
-    match rounds(&rt) {
-        Ok(Some(rounds)) => match report(&rt, rounds) {
+    match words_of(&rt) {
+        Ok(Some(asked)) => match answer(&rt, &asked) {
             Ok(()) => ExitCode::SUCCESS,
             Err(fault) => ExitCode::from(fault.code()),
         },
@@ -30,20 +31,59 @@ fn main(rt: HostRuntime) -> ExitCode {
     }
 }
 
-// The number of rounds, where the words of the command line are one number in range.
-fn rounds(rt: &(impl env::Env + AllocGlobal)) -> io::Result<Option<u64>> {
-    let mut words = env::args(rt)?.skip(1);
-    let (Some(word), None) = (words.next(), words.next()) else {
-        return Ok(None);
-    };
-    Ok(number_of(word.as_bytes()).filter(|rounds| (1..=MOST_ROUNDS).contains(rounds)))
+// What the words of the command line ask for.
+#[derive(Drop)]
+struct Asked {
+    rounds: u64,
+    script: Option<String>,
 }
 
-// Measures each workload in turn, and prints a line for it.
+impl Asked {
+    // Whether the number is in range, and the name is that of a work.
+    fn is_known(&self) -> bool {
+        let is_work = match &self.script {
+            Some(name) => WORKS.iter().any(|work| work.name == name.as_str()),
+            None => true,
+        };
+        is_work && (1..=MOST_ROUNDS).contains(&self.rounds)
+    }
+}
+
+// A number of rounds, and a name or none; None where the words are something else.
+fn words_of(rt: &(impl env::Env + AllocGlobal)) -> io::Result<Option<Asked>> {
+    let mut words = env::args(rt)?.skip(1);
+    let (Some(word), script, None) = (words.next(), words.next(), words.next()) else {
+        return Ok(None);
+    };
+    let Some(rounds) = number_of(word.as_bytes()) else {
+        return Ok(None);
+    };
+    Ok(Some(Asked { rounds, script }).filter(|asked| asked.is_known()))
+}
+
+fn answer(rt: &HostRuntime, asked: &Asked) -> Result<(), Fault> {
+    match &asked.script {
+        Some(name) => write_script(rt, name.as_str(), asked.rounds),
+        None => report(rt, asked.rounds),
+    }
+}
+
+// Measures each work in turn, and prints a line for it.
 fn report(rt: &HostRuntime, rounds: u64) -> Result<(), Fault> {
-    for (name, workload) in &WORKLOADS {
-        let nanoseconds = nanoseconds_per_event(rt, *workload, rounds)?;
-        println!(rt; "{name} {nanoseconds} ns")?;
+    for work in &WORKS {
+        let nanoseconds = nanoseconds_per_event(rt, work, rounds)?;
+        println!(rt; "{} {nanoseconds} ns", work.name)?;
+    }
+    Ok(())
+}
+
+// Writes the script of the work of this name.
+fn write_script(rt: &HostRuntime, name: &str, rounds: u64) -> Result<(), Fault> {
+    for work in &WORKS {
+        if work.name == name {
+            let script = script_of(rt.alloc(), work, rounds)?;
+            print!(rt; "{script}")?;
+        }
     }
     Ok(())
 }

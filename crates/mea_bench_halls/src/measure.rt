@@ -1,9 +1,10 @@
-ghost use Rattle.std.specs.Prelude.{◌≡◌, ◌≢◌, ◌+◌, ◌^◌, ◌<◌, [], length, OnOk};
+ghost use Rattle.std.specs.Prelude.{◌≡◌, ◌≢◌, []};
 
-use crate::workload::Workload;
+use crate::works::{Work, script_of};
 use mea_events::Event;
 use mea_family::Stop;
 use mea_hall::Hall;
+use mea_lines::event_of_line;
 use std::alloc::{AllocError, Global};
 use std::io;
 use std::time::{Clock, Instant};
@@ -17,7 +18,9 @@ pub enum Fault {
     Write,
     /// There was no memory.
     NoMemory,
-    /// An event was refused: a workload names something that does not live.
+    /// A line of a work is no event.
+    Bad,
+    /// An event was refused: a work names something that does not live.
     Refused(Stop),
 }
 
@@ -27,12 +30,14 @@ impl Fault {
         ensures clock { self ≡ Fault.Clock → result ≡ 4 }
         ensures write { self ≡ Fault.Write → result ≡ 5 }
         ensures no_memory { self ≡ Fault.NoMemory → result ≡ 6 }
+        ensures bad { self ≡ Fault.Bad → result ≡ 2 }
         ensures refused { (stop : Stop) → self ≡ Fault.Refused stop → result ≡ 1 }
     {
         match self {
             Fault::Clock => 4,
             Fault::Write => 5,
             Fault::NoMemory => 6,
+            Fault::Bad => 2,
             Fault::Refused(_) => 1,
         }
     }
@@ -50,14 +55,15 @@ impl From<AllocError> for Fault {
     }
 }
 
-/// How long one event of the workload takes, on halls of its own. The events are made before the clock is read,
-/// and each wake is taken.
+/// How long one event of the work takes, on halls of its own. The events are made before the clock is read, and each wake is
+/// taken.
 pub fn nanoseconds_per_event(
     rt: &(impl Clock + AllocGlobal),
-    workload: Workload,
+    work: &Work,
     rounds: u64,
 ) -> Result<u128, Fault> {
-    let events = events_of(rt.alloc(), workload, rounds)?;
+    let script = script_of(rt.alloc(), work, rounds)?;
+    let events = events_of(rt.alloc(), script.as_str())?;
     let Ok(start) = Instant::now(rt) else {
         return Err(Fault::Clock);
     };
@@ -68,11 +74,13 @@ pub fn nanoseconds_per_event(
     }
 }
 
-fn events_of(alloc: Global, workload: Workload, rounds: u64) -> Result<Vec<Event>, Fault> {
+fn events_of(alloc: Global, script: &str) -> Result<Vec<Event>, Fault> {
     let mut events = Vec::new(alloc);
-    workload.push_start(&mut events)?;
-    for _ in 0..rounds {
-        workload.push_round(&mut events)?;
+    for line in script.lines() {
+        match event_of_line(line.as_bytes()) {
+            Some(event) => events.extend_from_slice(&[event])?,
+            None => return Err(Fault::Bad),
+        }
     }
     Ok(events)
 }

@@ -5,6 +5,8 @@ use Rattle.mea_text.specs.Text.{counted_line}
 use Rattle.mea_named_run.specs.declared.counts.Counts.{Counts}
 use Rattle.mea_named_run.specs.declared.status.NamedStatus.{NamedStatus}
 use Rattle.mea_named_run.specs.declared.status.NamedStatus.TheVariants as statuses
+use Rattle.mea_named_run.specs.declared.fault.Fault.{Fault}
+use Rattle.mea_named_run.specs.declared.fault.Fault.TheVariants as faults
 
 -- the code with which the program ends
 abbrev pub code_of : NamedStatus → ℕ
@@ -13,6 +15,11 @@ code_of statuses.WriteFault = 5
 code_of statuses.NoMemory = 6
 code_of statuses.Usage = 7
 code_of (statuses.Missing m) = 8
+
+-- the status that tells of a fault
+abbrev pub status_of : Fault → NamedStatus
+status_of faults.NoMemory = statuses.NoMemory
+status_of (faults.Missing m) = statuses.Missing m
 
 -- three lines: what was kept, what is held, and what is free
 abbrev pub text_of : Counts → List ℕ

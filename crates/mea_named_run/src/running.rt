@@ -4,7 +4,7 @@ ghost use Rattle.mea_text.specs.Text.{counted_line};
 ghost use Rattle.mea_named_run.specs.declared.counts.Counts.{Counts};
 ghost use Rattle.mea_counted.specs.declared.missing.Missing.{Missing};
 ghost use Rattle.mea_named_run.specs.Gathered.{IsGathered, IsFault, IsMissing};
-ghost use Rattle.mea_named_run.specs.Program.{IsCommand, IsNamed, text_of};
+ghost use Rattle.mea_named_run.specs.Program.{IsCommand, IsNamed, text_of, status_of};
 
 use crate::counts::Counts;
 use crate::fault::Fault;
@@ -90,6 +90,7 @@ fn play<R: Threads + Wait + Sync, K: Sink>(
 
 fn status_of(fault: Fault) -> NamedStatus
     requires { IsFault fault }
+    ensures is { result ≡ status_of fault }
     ensures kind { (result ≢ NamedStatus.Usage) × (result ≢ NamedStatus.Done) × (result ≢ NamedStatus.WriteFault) }
     ensures missing { (m : Missing) → result ≡ NamedStatus.Missing m → IsMissing m }
 {
