@@ -1,5 +1,6 @@
 //! Tests of the semaphore that keeps its history and of the crew over it, and of semaphores whose permits are counted across
-//! threads, by public contracts alone, with the program of docs/USING.md that draws a history. It has no code but tests.
+//! threads, by public contracts alone, with the program of docs/USING.md that draws a history; and of what `Debug` shows of each
+//! event. It has no code but tests.
 #![tactic(auto)]
 
 #[cfg(test)]
@@ -14,5 +15,7 @@ mod passes;
 mod program;
 #[cfg(test)]
 mod shared;
+#[cfg(test)]
+mod shown;
 #[cfg(test)]
 mod words;

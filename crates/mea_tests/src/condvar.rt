@@ -94,6 +94,37 @@ fn goes_on_while_it_holds<R: Wait + Abort, G: End + Deref<Target = u64>, F: Wait
     assert!(rt; finds(rt, wait, bell) == Some(2));
 }
 
+// A wait that owns a share of its mutex gives the lock back, is woken by the notification, and has the guard again, with the value
+// as it was left.
+#[test]
+fn a_wait_owns_a_share_of_its_mutex(rt: HostRuntime) {
+    let bell = bell(&rt);
+    let mutex: Mutex<u64, Bell> = Mutex::new(rt.alloc(), 0);
+    let mutex = Arc::new(rt.alloc(), mutex).expect(&rt, "memory");
+    let condvar = Condvar::new(rt.alloc());
+    let guard = share(&rt, &mutex)
+        .try_lock_owned(&rt)
+        .expect(&rt, "a free lock");
+    is_woken(&rt, &condvar, &*mutex, condvar.wait_owned(guard), &bell);
+}
+
+fn is_woken<R: Wait + Abort, G: End + Deref<Target = u64>, F: Waits<Bell, G>>(
+    rt: &R,
+    condvar: &Condvar<Bell>,
+    mutex: &Mutex<u64, Bell>,
+    wait: F,
+    bell: &Count,
+)
+    requires { F.can_poll wait }
+{
+    let wait = pends(rt, wait, bell);
+    assert!(rt; sets(rt, mutex.try_lock(rt), 2));
+    assert!(rt; rung(bell) == 0);
+    condvar.notify_one(rt);
+    assert!(rt; rung(bell) == 1);
+    assert!(rt; finds(rt, wait, bell) == Some(2));
+}
+
 fn keep_their_mutex<R: Wait + Abort, G: End + Deref<Target = u64>, F: Waits<Bell, G>>(
     rt: &R,
     condvar: &Condvar<Bell>,
