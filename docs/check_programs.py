@@ -2,7 +2,7 @@
 """Checks the programs of the pages for users against the crates that the gate proves and runs.
 
 Each item of a block `rust` stands word for word in one source of its test crates, and that source imports what the
-`use` lines of the block do. A block `antt` is a file of specs/. A block `rust,ignore` is a fragment and stands nowhere else. A line of a block
+`use` lines of the block do. Of what it imports beside, the block uses nothing: who copies the block has all that it imports. A block `antt` is a file of specs/. A block `rust,ignore` is a fragment and stands nowhere else. A line of a block
 that names crates, as `mea_wait: mea_base`, is that of crates.txt. Each test of mea_uses stands in a page. Ends with 1
 where one of these does not hold. With --write it writes the lines that name crates anew, before it looks.
 """
@@ -77,6 +77,14 @@ def split(text):
     return imports, USE.sub("", text).strip("\n")
 
 
+def uses(program, name):
+    """Whether a text has the last word of an imported name, or the signs of an imported operator."""
+    word = name.split(" as ")[-1].split("::")[-1].split(".")[-1]
+    if "◌" in word:
+        return any(sign in program for sign in word.split("◌") if sign)
+    return re.search(rf"(?<![\w.:]){re.escape(word)}(?!\w)", program) is not None
+
+
 def crate_lines():
     return {line.split(":")[0].split()[0]: line for line in read("crates.txt").split("\n") if ":" in line}
 
@@ -105,6 +113,11 @@ def main():
                     faults.append(f"{page}:{at}: no source has this program")
                 elif not any(imports <= sources[path][0] for path in homes):
                     faults.append(f"{page}:{at}: {homes[0]} lacks {sorted(imports - sources[homes[0]][0])}")
+                else:
+                    home = next(path for path in homes if imports <= sources[path][0])
+                    lacks = sorted(name for name in sources[home][0] - imports if uses(program, name))
+                    if lacks:
+                        faults.append(f"{page}:{at}: the block uses {lacks} and does not import it")
                 shown += program
         for number, line in enumerate(read(page).split("\n"), 1):
             match = re.match(r"    (mea\w*)( [^:]*)?:", line)
