@@ -6,8 +6,12 @@
 # stays, where it is the same; where it is not, nothing is copied.
 # Ends with 0 where all is there, with 1 where nothing was copied, and with 2 in the middle of a copy that failed.
 set -u
-if [ $# -lt 2 ] || [ ! -d "$1" ]; then
+if [ $# -lt 2 ]; then
     echo "usage: tools/take.sh FOLDER CRATE.." >&2
+    exit 1
+fi
+if [ ! -d "$1" ]; then
+    echo "take.sh: there is no folder $1" >&2
     exit 1
 fi
 to=$(cd "$1" && pwd) || exit 1
@@ -35,5 +39,5 @@ done
 cp LICENSE "$to/crates/LICENSE.nookwhisk" || exit 2
 cp NOTICE "$to/crates/NOTICE.nookwhisk" || exit 2
 if [ -e "$to/crates/mea_wait" ] && ! grep -qw Wait "$to/HANDLES" 2> /dev/null; then
-    echo "take.sh: these crates take locks, so $to/HANDLES has to allow Wait" >&2
+    echo "take.sh: these crates take locks, so $to/HANDLES has to allow Wait, as its one line 'Handles allowed: Wait.' does" >&2
 fi
