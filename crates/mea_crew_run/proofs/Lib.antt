@@ -1,3 +1,4 @@
+pub mod Faults
 pub mod Mismatches
 pub mod Rounds
 pub mod Sums

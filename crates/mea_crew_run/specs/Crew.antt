@@ -65,3 +65,9 @@ abbrev pub IsCrewFault : ℕ → CrewFault → Type 0
 IsCrewFault rounds faults.NoMemory = Unit {0}
 IsCrewFault rounds (faults.Refused r) = (r.stop ≢ stops.NoMemory) × IsRefusal r
 IsCrewFault rounds (faults.Mismatch m) = IsMismatch rounds m
+
+-- the status that tells of a fault
+abbrev pub status_of : CrewFault → CrewStatus
+status_of faults.NoMemory = statuses.NoMemory
+status_of (faults.Refused r) = statuses.Refused
+status_of (faults.Mismatch m) = statuses.Mismatch

@@ -1,10 +1,10 @@
-ghost use Rattle.std.specs.Prelude.{◌≡◌, ◌≢◌, ◌↔◌, ◌⊎◌, ◌+◌, ◌*◌, ◌<◌, ◌≤◌, ◌^◌, ◌++◌, ℕ, List, [], Some, IfOk, IfSome, map, length, take, codes, string_bytes};
+ghost use Rattle.std.specs.Prelude.{◌≡◌, ◌≢◌, ◌↔◌, ◌⊎◌, ◌+◌, ◌*◌, ◌<◌, ◌≤◌, ◌^◌, ◌++◌, ℕ, List, [], Some, IfOk, IfErr, IfSome, map, length, take, codes, string_bytes};
 ghost use Rattle.mea_io.specs.Bytes.{Rose, HasWritten, HasWrittenPart};
 ghost use Rattle.mea_recorded.specs.History.{History};
 ghost use Rattle.mea_text.specs.Text.{counted_line};
 ghost use Rattle.mea_text.specs.Reply.{reply_text};
 ghost use Rattle.mea_family.specs.declared.answer.Answer.TheVariants.{Account};
-ghost use Rattle.mea_crew_run.specs.Crew.{IsCommand, IsCrew, IsOfCrew, text_of, answers};
+ghost use Rattle.mea_crew_run.specs.Crew.{IsCommand, IsCrew, IsOfCrew, IsCrewFault, text_of, answers, status_of};
 ghost use Rattle.mea_crew_run.specs.Rounds.{is_held, is_lacking};
 
 use crate::answers::{is_held, is_lacking};
@@ -93,7 +93,8 @@ fn play<R: Threads + Wait + Sync, K: Sink>(
 }
 
 fn status_of(fault: CrewFault) -> CrewStatus
-    ensures { (result ≢ CrewStatus.Usage) × (result ≢ CrewStatus.Done) × (result ≢ CrewStatus.WriteFault) }
+    ensures is { result ≡ status_of fault }
+    ensures kind { (result ≢ CrewStatus.Usage) × (result ≢ CrewStatus.Done) × (result ≢ CrewStatus.WriteFault) }
 {
     match fault {
         CrewFault::NoMemory => CrewStatus::NoMemory,
@@ -111,14 +112,16 @@ fn lines_of<R: Threads + Wait + Sync>(
 ) -> Result<Vec<u8>, CrewFault>
     requires workers { (1 ≤ workers) × (workers ≤ 8) }
     requires rounds { rounds ≤ 10000 }
-    ensures { IfOk result (λ text. (h : History) × IsOfCrew workers rounds h × (text.items ≡ text_of h)) }
+    ensures text { IfOk result (λ text. (h : History) × IsOfCrew workers rounds h × (text.items ≡ text_of h)) }
+    ensures fault { IfErr result (λ fault. IsCrewFault rounds fault) }
 {
     let recorded = crew(rt, alloc, workers, rounds, &Open)?;
     lines_of_history(alloc, recorded)
 }
 
 fn lines_of_history(alloc: Global, recorded: Recorded) -> Result<Vec<u8>, CrewFault>
-    ensures { IfOk result (λ text. text.items ≡ text_of recorded) }
+    ensures text { IfOk result (λ text. text.items ≡ text_of recorded) }
+    ensures fault { IfErr result (λ fault. (rounds : ℕ) → IsCrewFault rounds fault) }
 {
     let at = recorded.entries();
     let tally = tally_of(&recorded);
