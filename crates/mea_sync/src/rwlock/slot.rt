@@ -37,6 +37,7 @@ pub(super) fn share<T: Drop>(
 pub(super) fn unshare<T: Drop>(owned: &mut Option<T>, shared: &mut Option<Arc<T>>)
     ensures kept { value_in owned.new shared.new ≡ value_in owned.old shared.old }
     ensures apart { IsSome owned.new → shared.new ≡ None }
+    ensures whole { IsSome owned.old → owned.new ≡ owned.old }
 {
     if owned.is_some() {
         *shared = None;
@@ -55,6 +56,7 @@ pub(super) fn take<T: Drop>(owned: &mut Option<T>, shared: &mut Option<Arc<T>>) 
     ensures value { IfSome result (λ value. value_in owned.old shared.old ≡ Some value) }
     ensures taken { OnSome result (value_in owned.new shared.new ≡ None) }
     ensures kept { IfNone result (value_in owned.new shared.new ≡ value_in owned.old shared.old) }
+    ensures whole { IsSome owned.old → result ≡ owned.old }
 {
     unshare(owned, shared);
     owned.take()
@@ -62,7 +64,8 @@ pub(super) fn take<T: Drop>(owned: &mut Option<T>, shared: &mut Option<Arc<T>>) 
 
 // The value, unless it is away or a share of it is left.
 pub(super) fn into_value<T: Drop>(owned: Option<T>, shared: Option<Arc<T>>) -> Option<T>
-    ensures { IfSome result (λ value. value_in owned shared ≡ Some value) }
+    ensures value { IfSome result (λ value. value_in owned shared ≡ Some value) }
+    ensures whole { IsSome owned → result ≡ owned }
 {
     if owned.is_some() {
         return owned;

@@ -44,7 +44,8 @@ impl<T: Drop, W: Drop> RwLockState<T, W> {
 
     // The value, where no guard has it.
     pub(super) fn into_value(self) -> Option<T>
-        ensures { IfSome result (λ value. value_in self.owned self.shared ≡ Some value) }
+        ensures value { IfSome result (λ value. value_in self.owned self.shared ≡ Some value) }
+        ensures whole { IsSome self.owned → result ≡ self.owned }
     {
         let RwLockState { owned, shared, .. } = self;
         slot::into_value(owned, shared)
@@ -52,7 +53,8 @@ impl<T: Drop, W: Drop> RwLockState<T, W> {
 
     // The value for writing, where no guard has it or a share of it.
     pub(super) fn value_mut(&mut self) -> Option<&mut T>
-        ensures { IfSome (option_copied_mut result) (λ value. value_in self.old.owned self.old.shared ≡ Some value) }
+        ensures value { IfSome (option_copied_mut result) (λ value. value_in self.old.owned self.old.shared ≡ Some value) }
+        ensures whole { IsSome self.old.owned → option_copied_mut result ≡ self.old.owned }
     {
         slot::unshare(&mut self.owned, &mut self.shared);
         self.owned.as_mut()
@@ -115,6 +117,7 @@ impl<T: Drop, W: Drop> RwLockState<T, W> {
             × (held_of self.old.lock.permits ≡ 0) × (self.old.lock.most ≤ self.old.lock.permits.free)
             × (self.new.lock ≡ record self.old.lock { permits = record self.old.lock.permits { free = self.old.lock.permits.free - self.old.lock.most }; writing = true })) }
         ensures none { IfNone result.0 ((value_in self.new.owned self.new.shared ≡ value_in self.old.owned self.old.shared) × (self.new.lock ≡ self.old.lock)) }
+        ensures whole { IsSome self.old.owned → self.old.lock.writing ≡ false → self.old.lock.most ≤ self.old.lock.permits.free → result.0 ≡ self.old.owned }
         ensures made { result.1 ≡ length self.new.lock.permits.wakes - length self.old.lock.permits.wakes }
     {
         let before = self.lock.wakes_ready();
@@ -147,6 +150,7 @@ impl<T: Drop, W: Drop> RwLockState<T, W> {
             × (held_of self.new.lock.permits ≡ held_of self.old.lock.permits) × (self.new.lock.writing ≡ self.old.lock.writing)) }
         ensures kept { OnErr result.0 (MayPoll self.old.lock wait.old → RefusesWrite self.old.lock wait.old waker self.new.lock wait.new) }
         ensures lost { OnErr result.0 (¬ MayPoll self.old.lock wait.old → RefusesWrite self.old.lock (renewed_rw wait.old) waker self.new.lock wait.new) }
+        ensures whole { IsSome self.old.owned → OnErr result.0 (self.new.lock ≡ self.old.lock) }
         ensures made { result.1 ≡ length self.new.lock.permits.wakes - length self.old.lock.permits.wakes }
     {
         let before = self.lock.wakes_ready();
@@ -169,6 +173,7 @@ impl<T: Drop, W: Drop> RwLockState<T, W> {
             × (held_of self.new.lock.permits ≡ held_of self.old.lock.permits) × (self.new.lock.writing ≡ self.old.lock.writing)) }
         ensures kept { OnErr result (MayPoll self.old.lock wait.old → RefusesWrite self.old.lock wait.old waker self.new.lock wait.new) }
         ensures lost { OnErr result (¬ MayPoll self.old.lock wait.old → RefusesWrite self.old.lock (renewed_rw wait.old) waker self.new.lock wait.new) }
+        ensures whole { IsSome self.old.owned → OnErr result (self.new.lock ≡ self.old.lock) }
     {
         let was_writing = self.lock.is_writing();
         let Turn::Ready(waker) = self.lock.poll_checked(wait, waker)? else {
@@ -195,6 +200,7 @@ impl<T: Drop, W: Drop> RwLockState<T, W> {
         ensures none { IfNone result ((value_in self.new.owned self.new.shared ≡ value_in self.old.owned self.old.shared)
             × (self.new.lock ≡ record self.old.lock { permits = given_back self.old.lock.permits self.old.lock.most; writing = false })) }
         ensures free { IfNone result (held_of self.new.lock.permits ≡ 0) }
+        ensures whole { IsSome self.old.owned → result ≡ self.old.owned }
     {
         let taken = slot::take(&mut self.owned, &mut self.shared);
         if taken.is_none() {
