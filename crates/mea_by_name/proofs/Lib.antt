@@ -1,3 +1,4 @@
+pub mod Beside
 pub mod Cases
 pub mod Halls
 pub mod Kept

@@ -1,3 +1,4 @@
+pub mod Beside
 pub mod ByName
 pub mod ByNameLends
 pub mod NameHasher

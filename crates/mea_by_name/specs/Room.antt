@@ -1,9 +1,10 @@
 -- what a `Roomy` stands for
-use Rattle.std.specs.Prelude.{ℕ, refl}
+use Rattle.std.specs.Prelude.{ℕ, Option, refl}
 use Rattle.std.specs.Coded.{Coded, code_by, coded×, coded_ℕ}
 use Rattle.std.specs.FinMap.{insert}
 use Rattle.std.specs.HashMap.{HashMap, spare}
 use Rattle.mea_by_name.specs.ByName.{Names, names_code, kept}
+use Rattle.mea_by_name.specs.Beside.{beside}
 
 -- things by name, and how many more can be put there with no memory taken
 pub record Room (X : Type 0) : Type 0 where
@@ -14,9 +15,9 @@ pub record Room (X : Type 0) : Type 0 where
 abbrev pub room_code : {X : Type 0} → Coded X → Coded (Room X)
 room_code {X} x = code_by (Names X × ℕ) (coded× (names_code x) coded_ℕ) (λ r. (r.things, r.spare)) (λ p. record { things = p.0; spare = p.1 }) (λ _. refl)
 
--- what a hashed map stands for
-abbrev pub room_of : {X S : Type 0} → HashMap ℕ X S → Room X
-room_of m = record { things = kept m.entries; spare = spare m }
+-- what a hashed map stands for, and the thing beside it, if there is one
+abbrev pub room_of : {X S : Type 0} → ℕ → Option X → HashMap ℕ X S → Room X
+room_of k one m = record { things = kept (beside k one m.entries); spare = spare m }
 
 -- the same room, with x at the name k
 abbrev pub with_thing : {X : Type 0} → Room X → ℕ → X → Room X

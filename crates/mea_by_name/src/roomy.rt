@@ -1,7 +1,9 @@
-ghost use Rattle.std.specs.Prelude.{◌≡◌, ◌+◌, ◌≤◌, OnOk, IsSome, Some, is_some};
+ghost use Rattle.std.specs.Prelude.{◌≡◌, ◌≢◌, ◌+◌, ◌≤◌, not, IsOk, OnOk, OnErr, IsSome, Some, is_some};
 ghost use Rattle.std.specs.Option.{option_copied, option_copied_mut};
 ghost use Rattle.std.specs.Borrow.{sem};
 ghost use Rattle.std.specs.FinMap as map;
+ghost use Rattle.mea_base.specs.Named as entries;
+ghost use Rattle.mea_by_name.specs.Beside.{stands, may_stand, may_follow};
 
 use crate::name_hasher::NameHasher;
 use mea_base::NoMemory;
@@ -9,27 +11,83 @@ use std::alloc::Global;
 use std::collections::HashMap;
 use std::marker::Model;
 
-/// Things by name, with room for more of them that was made before it is known whether they come. Each call but `reserve`
-/// costs a look-up in a hashed map.
+/// Things by name, with room for more of them that was made before it is known whether they come.
+///
+/// One thing stands beside a hashed map, so that where there is one at a time no call looks into the map. Each call for
+/// another thing costs a look-up there, and so does what puts a thing beside a map that is not empty.
 pub struct Roomy<X> {
+    // The thing beside the map, and the name that it has.
+    name: u64,
+    one: Option<X>,
     map: HashMap<u64, X, NameHasher>,
 }
 
 impl<X> Model for Roomy<X> {
     ghost use Rattle.mea_by_name.specs.Room.{Room, room_code, room_of};
+    ghost use Rattle.mea_by_name.specs.Beside.{IsApart};
 
     ghost Value = { Room X };
 
     ghost coded = { room_code X.code };
 
-    ghost view = { λ m. room_of m.map };
+    ghost view = { λ m. room_of m.name m.one m.map };
+
+    ghost invariant = { λ m. IsApart m.name m.one m.map.entries };
 }
 
 // Written out: a derived one is proved anew in each crate that hands a value of this type to a generic function.
 impl<X: Drop> Drop for Roomy<X> {
     fn drop(self) {
-        let Roomy { map: _ } = self;
+        let Roomy {
+            name: _,
+            one: _,
+            map: _,
+        } = self;
     }
+}
+
+// Whether there is a thing, and this is its name.
+#[inline(always)]
+fn stands<X>(own: u64, one: &Option<X>, name: u64) -> bool
+    ensures { result ≡ stands own one.now name }
+{
+    match one {
+        Some(_) => name == own,
+        None => false,
+    }
+}
+
+// Whether a map has nothing at a name.
+#[inline(always)]
+fn lacks<X>(map: &HashMap<u64, X, NameHasher>, name: u64) -> bool
+    ensures { result ≡ not (is_some (entries.at map.now.entries name)) }
+{
+    map.is_empty() || !map.contains_key(&name)
+}
+
+// Whether the thing of a name stands beside the map, or may be put there.
+#[inline(always)]
+fn may_stand<X>(own: u64, one: &Option<X>, map: &HashMap<u64, X, NameHasher>, name: u64) -> bool
+    ensures { result ≡ may_stand own one.now map.now.entries name }
+{
+    match one {
+        Some(_) => name == own,
+        None => lacks(map, name),
+    }
+}
+
+// Whether the thing of a name stands beside the map, which has nothing at another name.
+#[inline(always)]
+fn may_follow<X>(
+    own: u64,
+    one: &Option<X>,
+    map: &HashMap<u64, X, NameHasher>,
+    from: u64,
+    to: u64,
+) -> bool
+    ensures { result ≡ may_follow own one.now map.now.entries from to }
+{
+    stands(own, one, from) && lacks(map, to)
 }
 
 impl<X> Roomy<X> {
@@ -40,6 +98,8 @@ impl<X> Roomy<X> {
         ensures { result.things ≡ map.empty }
     {
         Roomy {
+            name: 0,
+            one: None,
             map: HashMap::with_hasher(alloc, NameHasher::new()),
         }
     }
@@ -61,14 +121,18 @@ impl<X> Roomy<X> {
     pub fn get(&self, name: u64) -> Option<&X>
         ensures { option_copied result ≡ map.get self.now.things name }
     {
-        self.map.get(&name)
+        if stands(self.name, &self.one, name) {
+            self.one.as_ref()
+        } else {
+            self.map.get(&name)
+        }
     }
 
     /// Whether anything stands at a name.
     pub fn has(&self, name: u64) -> bool
         ensures { result ≡ is_some (map.get self.now.things name) }
     {
-        self.map.contains_key(&name)
+        self.get(name).is_some()
     }
 
     /// What stands at a name.
@@ -76,7 +140,7 @@ impl<X> Roomy<X> {
         requires { IsSome (map.get self.now.things name) }
         ensures { map.get self.now.things name ≡ Some result.now }
     {
-        self.map.get(&name).unwrap()
+        self.get(name).unwrap()
     }
 
     /// What stands at a name, for writing.
@@ -85,7 +149,7 @@ impl<X> Roomy<X> {
         ensures* writes_back { sem 𝓛 (lends_thing X.row self.entry name result) }
         ensures value { map.get self.old.things name ≡ Some result.now }
     {
-        self.map.get_mut(&name).unwrap()
+        self.get_mut(name).unwrap()
     }
 
     /// What stands at a name, for writing, if anything does.
@@ -93,7 +157,51 @@ impl<X> Roomy<X> {
         ensures* writes_back { sem 𝓛 (lends_if_there X.row self.entry name result) }
         ensures value { option_copied_mut result ≡ map.get self.old.things name }
     {
-        self.map.get_mut(&name)
+        if stands(self.name, &self.one, name) {
+            self.one.as_mut()
+        } else {
+            self.map.get_mut(&name)
+        }
+    }
+
+    // Puts a thing at a name. It takes memory only where there is no room. On an error no thing has changed.
+    pub(crate) fn put(&mut self, name: u64, x: X) -> Result<(), NoMemory>
+    where
+        X: Drop,
+        ensures things { OnOk result (self.new.things ≡ map.insert self.old.things name x) }
+        ensures spare { self.old.spare ≤ self.new.spare + 1 }
+        ensures err { OnErr result (self.new.things ≡ self.old.things) }
+        ensures succeeds { 1 ≤ self.old.spare → IsOk result }
+    {
+        if may_stand(self.name, &self.one, &self.map, name) {
+            self.name = name;
+            self.one = Some(x);
+            return Ok(());
+        }
+        match self.map.insert(name, x) {
+            Ok(_) => Ok(()),
+            Err(_) => Err(NoMemory),
+        }
+    }
+
+    // Takes the thing at a name away, and puts one at another name. On an error no thing has changed.
+    pub(crate) fn replace(&mut self, from: u64, to: u64, x: X) -> Result<(), NoMemory>
+    where
+        X: Drop,
+        requires { from ≢ to }
+        ensures things { OnOk result (self.new.things ≡ map.insert (map.remove self.old.things from) to x) }
+        ensures err { OnErr result (self.new.things ≡ self.old.things) }
+    {
+        if may_follow(self.name, &self.one, &self.map, from, to) {
+            self.name = to;
+            self.one = Some(x);
+            return Ok(());
+        }
+        let Ok(()) = self.put(to, x) else {
+            return Err(NoMemory);
+        };
+        let _ = self.take(from);
+        Ok(())
     }
 
     /// Puts a thing at a name, where there is room. It takes no memory.
@@ -104,8 +212,8 @@ impl<X> Roomy<X> {
         ensures things { self.new.things ≡ map.insert self.old.things name x }
         ensures spare { self.old.spare ≤ self.new.spare + 1 }
     {
-        match self.map.insert(name, x) {
-            Ok(_) => {}
+        match self.put(name, x) {
+            Ok(()) => {}
             Err(_) => unreachable!(),
         }
     }
@@ -126,6 +234,10 @@ impl<X> Roomy<X> {
         ensures things { self.new.things ≡ map.remove self.old.things name }
         ensures spare { self.old.spare ≤ self.new.spare }
     {
-        self.map.remove(&name)
+        if stands(self.name, &self.one, name) {
+            self.one.take()
+        } else {
+            self.map.remove(&name)
+        }
     }
 }

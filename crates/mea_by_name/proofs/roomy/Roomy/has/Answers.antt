@@ -1,7 +1,6 @@
-use Rattle.std.proofs.Common.{is_some, sym, ap, ◌∙◌}
-use Rattle.std.specs.FinMap.{get}
-use Rattle.mea_base.proofs.NamedMaps.{kept-at}
+use Rattle.std.proofs.Common.{is_some, ap, ◌∙◌}
+use Rattle.mea_by_name.proofs.Kept.{copied_is}
 use Rattle.mea_by_name.proofs.roomy.Roomy.has.Goals as goal
 
 pub returns : goal.returns
-returns g c = c.contains_key.ensures ∙ ap is_some (sym (kept-at c.self.inside.map.entries c.args.name) ∙ ap (λ (m : _). get m.things c.args.name) c.self.view_is)
+returns g c = c.is_some.ensures ∙ copied_is c.get.result ∙ ap is_some c.get.ensures

@@ -1,12 +1,26 @@
 use Rattle.std.proofs.Common.{sym, ap, ◌∙◌}
 use Rattle.std.specs.FinMap.{get, remove}
-use Rattle.mea_base.proofs.NamedMaps.{kept-at, named_remove}
+use Rattle.mea_by_name.specs.ByName.{kept}
+use Rattle.mea_by_name.specs.Beside.{beside}
+use Rattle.mea_by_name.proofs.Beside.{one_at, other_at, one_gone, other_gone, stays_apart}
 use Rattle.mea_by_name.proofs.roomy.Roomy.take.Goals as goal
 
-pub returns-clause-value : goal.returns-clause-value
-returns-clause-value g c = c.remove.ensures.value ∙ sym (kept-at c.self.inside.map.entries c.args.name) ∙ ap (λ (m : _). get m.things c.args.name) c.self.view_is
+pub returns-then-stands-clause-value : goal.returns-then-stands-clause-value
+returns-then-stands-clause-value g c = c.take.ensures.value ∙ sym (one_at c.self.inside.name c.self.inside.one c.self.inside.map.entries c.args.name (sym c.stands.ensures ∙ c.if-stands.true)) ∙ ap (λ (m : _). get m.things c.args.name) c.self.view_is
 
-pub returns-clause-things : goal.returns-clause-things
-returns-clause-things g c =
-    named_remove (λ k x. x) c.self.inside.map.entries c.remove.new.self.entries c.args.name c.remove.ensures.updates.0
+pub returns-then-stands-clause-things : goal.returns-then-stands-clause-things
+returns-then-stands-clause-things g c =
+    ap (λ o. kept (beside c.self.inside.name o c.self.inside.map.entries)) c.take.ensures.after
+    ∙ one_gone c.self.inside.name c.self.inside.one c.self.inside.map.entries c.args.name (sym c.stands.ensures ∙ c.if-stands.true) c.self.invariant
+    ∙ ap (λ (m : _). remove m.things c.args.name) c.self.view_is
+
+pub invariant_of-self-else-stands : goal.invariant_of-self-else-stands
+invariant_of-self-else-stands g c = stays_apart c.self.inside.name c.self.inside.one c.self.inside.map.entries c.remove.new.self.entries c.args.name _ (sym c.stands.ensures ∙ c.if-stands.false) c.remove.ensures.updates.0 c.self.invariant
+
+pub returns-else-stands-clause-value : goal.returns-else-stands-clause-value
+returns-else-stands-clause-value g c = c.remove.ensures.value ∙ sym (other_at c.self.inside.name c.self.inside.one c.self.inside.map.entries c.args.name (sym c.stands.ensures ∙ c.if-stands.false)) ∙ ap (λ (m : _). get m.things c.args.name) c.self.view_is
+
+pub returns-else-stands-clause-things : goal.returns-else-stands-clause-things
+returns-else-stands-clause-things g c =
+    other_gone c.self.inside.name c.self.inside.one c.self.inside.map.entries c.remove.new.self.entries c.args.name (sym c.stands.ensures ∙ c.if-stands.false) c.remove.ensures.updates.0
     ∙ ap (λ (m : _). remove m.things c.args.name) c.self.view_is

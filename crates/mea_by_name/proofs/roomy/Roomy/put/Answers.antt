@@ -1,0 +1,28 @@
+use Rattle.std.proofs.Common.{sym, ap, ◌∙◌}
+use Rattle.std.specs.FinMap.{insert}
+use Rattle.mea_by_name.specs.ByName.{kept}
+use Rattle.mea_by_name.specs.Beside.{beside}
+use Rattle.mea_by_name.proofs.Beside.{not_beside, other_put, stays_apart, put_beside, put_apart}
+use Rattle.mea_by_name.proofs.roomy.Roomy.put.Goals as goal
+
+pub invariant_of-self : goal.invariant_of-self
+invariant_of-self g c = put_apart c.self.inside.name c.self.inside.one c.self.inside.map.entries c.args.name c.args.x (sym c.may_stand.ensures ∙ c.if-may_stand.true) c.self.invariant
+
+pub returns-then-may_stand-clause-things : goal.returns-then-may_stand-clause-things
+returns-then-may_stand-clause-things g c =
+    put_beside c.self.inside.name c.self.inside.one c.self.inside.map.entries c.args.name c.args.x (sym c.may_stand.ensures ∙ c.if-may_stand.true)
+    ∙ ap (λ (m : _). insert m.things c.args.name c.args.x) c.self.view_is
+
+pub invariant_of-self-in-Ok : goal.invariant_of-self-in-Ok
+invariant_of-self-in-Ok g c =
+    let other = not_beside c.self.inside.name c.self.inside.one c.self.inside.map.entries c.args.name (sym c.may_stand.ensures ∙ c.if-may_stand.false) in
+    stays_apart c.self.inside.name c.self.inside.one c.self.inside.map.entries c.insert.new.self.entries c.args.name _ other c.in-Ok.ensures.updates.0 c.self.invariant
+
+pub returns-in-Ok-clause-things : goal.returns-in-Ok-clause-things
+returns-in-Ok-clause-things g c =
+    let other = not_beside c.self.inside.name c.self.inside.one c.self.inside.map.entries c.args.name (sym c.may_stand.ensures ∙ c.if-may_stand.false) in
+    other_put c.self.inside.name c.self.inside.one c.self.inside.map.entries c.insert.new.self.entries c.args.name c.args.x other c.in-Ok.ensures.updates.0
+    ∙ ap (λ (m : _). insert m.things c.args.name c.args.x) c.self.view_is
+
+pub returns-clause-err : goal.returns-clause-err
+returns-clause-err g c = ap (λ es. kept (beside c.self.inside.name c.self.inside.one es)) c.in-Err.ensures.err ∙ ap (λ (m : _). m.things) c.self.view_is
