@@ -1,3 +1,4 @@
+pub mod Alone
 pub mod Entries
 pub mod Kept
 pub mod Nexts

@@ -1,5 +1,5 @@
 -- what one key has: its weight, its permits, those of its acquires that were admitted, and those that wait
-use Rattle.std.specs.Prelude.{ℕ, ◌+◌, ◌-◌, ◌≤◌, List, IsSome, refl}
+use Rattle.std.specs.Prelude.{ℕ, ◌+◌, ◌-◌, ◌≤◌, List, [], ◌∷◌, Option, Some, None, IsSome, refl}
 use Rattle.std.specs.Coded.{Coded, code_by, coded×, coded_ℕ}
 use base.Stored.{coded_unit}
 use Rattle.std.specs.Ordering.{nat_cmp}
@@ -13,6 +13,11 @@ Numbers X = map.FinMap nat_cmp X
 -- the map that a list of entries stands for
 abbrev pub kept : {X : Type 0} → List (ℕ × X) → Numbers X
 kept es = named (λ k x. x) es
+
+-- a number alone, if there is one
+abbrev pub lone : Option ℕ → List (ℕ × Unit {0})
+lone None = []
+lone (Some number) = (number, tt) ∷ []
 
 abbrev pub numbers_code : {X : Type 0} → Coded X → Coded (Numbers X)
 numbers_code x = map.code coded_ℕ x
