@@ -55,9 +55,6 @@ module _ {State : Type 0} (steps : Steps State) (s t : State) (b c : Board) (n m
         ap (shown_from steps false s b n) (lines_last rest some (cut_nothing rest none))
         ∙ ends.last (λ u d. shown_from steps false u d (n + 1) [])
 
-  pub none_left : rest ≡ [] → shown_from steps false s b n (lines_in false rest) ≡ ended b Whole n
-  none_left is = ap (λ r. shown_from steps false s b n (lines_in false r)) is ∙ ap (shown_from steps false s b n) (lines_none false)
-
 -- the script, as far as it counts
 pub at_start : {State : Type 0} (steps : Steps State) (s : State) (script first : List ℕ) (b : Board) (n : ℕ) → first ≡ take (min (length script) limit) script
     → b ≡ empty_board → n ≡ 0
@@ -89,9 +86,6 @@ module _ {State : Type 0} (steps : Steps State) (s t : State) (b c : Board) (n m
 
   pub shown_long : long ≡ true → None ≡ cut 10 rest → ended b Long n ≡ whole
   shown_long is none = sym (as_is true is ∙ long_ends steps s t b c n m rest none)
-
-  pub shown_empty : (shown : Shown) → long ≡ false → rest ≡ [] → shown ≡ ended b Whole n → shown ≡ whole
-  shown_empty shown is empty ends = ends ∙ sym (as_is false is ∙ none_left steps s t b c n m rest empty)
 
   pub shown_last : (on : Bool) (shown : Shown) → long ≡ false → None ≡ cut 10 rest → 0 < length rest
       → (on ≡ true → GoesOn steps s t b c n (event_of rest)) → (on ≡ true → m ≡ n + 1) → (on ≡ true → shown ≡ ended c Whole m)

@@ -1,21 +1,21 @@
 -- what a change of one semaphore and one future does to the links, and to the hall that is stood for
-use Rattle.std.proofs.Common.{◌≡◌, ◌⊎◌, inl, inr, ℕ, ◌<◌, ◌≤◌, ◌==◌, Bool, true, false, cond, refl, ap, sym, subst, ◌∙◌, arith, Option, Some, None}
+use Rattle.std.proofs.Common.{◌≡◌, ◌⊎◌, inl, inr, ℕ, ◌<◌, ◌≤◌, ◌==◌, Bool, true, false, cond, refl, ap, sym, ◌∙◌, arith, List, Option, Some, None}
 use Rattle.std.specs.Option.{option_map}
 use Rattle.std.specs.Ordering.{nat_cmp}
 use Rattle.std.specs.FinMap.{FinMap, get, insert, remove}
 use Rattle.std.proofs.lemmas.Bool.{eqb-true, eqb-false}
 use Rattle.mea_base.proofs.NamedMaps.{same_named, get-seen}
 use Rattle.mea_base.proofs.Totals.{get_inserted, get_removed}
-use Rattle.mea_base.proofs.Tests.{at_same, at_apart}
-use Rattle.mea_sem_model.specs.Hall.{Future, Waiter}
+use Rattle.mea_base.proofs.Tests.{at_same, at_apart, by_name}
+use Rattle.mea_sem_model.specs.Hall.{Future, Who, Waiter}
 use Rattle.mea_sem_core.specs.declared.acquire.Acquire.{Acquire}
 use Rattle.mea_sem_core.specs.declared.acquire.Acquire.TheVariants.{New, Queued, Done, Refused}
-use Rattle.mea_sem_core.specs.Acquire.{demand_of}
 use Rattle.mea_sem_core.specs.Core as cores
 use Rattle.mea_sem_core.specs.Calls.{Belongs}
 use Rattle.mea_sem.specs.declared.entries.SemaphoreEntry.{SemaphoreEntry}
 use Rattle.mea_sem.specs.declared.entries.FutureEntry.{FutureEntry}
-use Rattle.mea_sem.specs.Store.{Store, is_under, has, name_of, who_of, queue_of, semaphore_of, stage_of, stage_under, core_in, future_of, hall_of, IsOpen, IsHome, IsOwned, IsNumbered, IsLinked}
+use Rattle.mea_sem.specs.Store.{Store, is_under, has, name_of, who_of, queue_of, seen_as, semaphore_of, stage_of, stage_under, core_in, future_of, hall_of, IsOpen, IsHome, IsOwned, IsNumbered, IsLinked, at_stage}
+use Rattle.mea_sem.proofs.Replaced.{semaphore_there, semaphore_other, each_semaphore, home_still}
 use Rattle.mea_sem.proofs.Cores.{IsAt, all_at, all_by}
 use Rattle.mea_sem.proofs.Names.{has-parts, under-queued, owner_has, name-owner, queue_of-same}
 
@@ -54,12 +54,6 @@ module _ (st st' : Store) (b b' s f : ℕ) (e e' : SemaphoreEntry) (o o' : Optio
   future_other : (g : ℕ) → (f ≡ g → ⊥) → get st'.futures g ≡ get st.futures g
   future_other g apart = c.futures g ∙ at_apart f g o' (get st.futures g) apart
 
-  semaphore_there : get st'.semaphores s ≡ Some e'
-  semaphore_there = c.semaphores s ∙ at_same s s (Some e') (get st.semaphores s) refl
-
-  semaphore_other : (q : ℕ) → (s ≡ q → ⊥) → get st'.semaphores q ≡ get st.semaphores q
-  semaphore_other q apart = c.semaphores q ∙ at_apart s q (Some e') (get st.semaphores q) apart
-
   -- a number that another future of s has is not f's
   not_mine : (g n : ℕ) (y : FutureEntry) → (f ≡ g → ⊥) → get st.futures g ≡ Some y → y.semaphore ≡ s → is_under y.acquire n ≡ true → has s n o ≡ false
   not_mine g n y apart is mine under = by_test (has s n o) refl
@@ -84,39 +78,9 @@ module _ (st st' : Store) (b b' s f : ℕ) (e e' : SemaphoreEntry) (o o' : Optio
   home_kept y (Refused d) is free belongs still = absurd still
 
   home_other : (g : ℕ) (y : FutureEntry) → (f ≡ g → ⊥) → get st.futures g ≡ Some y → IsHome st' y
-  home_other g y apart is = by_test (s == y.semaphore) refl
-    where
-      old : IsHome st y
-      old = linked.home g y is
-
-      by_test : (t : Bool) → (s == y.semaphore) ≡ t → IsHome st' y
-      by_test false h = record {
-        entry = old.entry;
-        there = semaphore_other y.semaphore (eqb-false s y.semaphore h)
-            ∙ old.there;
-        belongs = old.belongs;
-        open_still = old.open_still;
-      }
-      by_test true h =
-          let mine : s ≡ y.semaphore = eqb-true s y.semaphore h in
-          let both : Some e ≡ Some old.entry = sym c.there ∙ ap (get st.semaphores) mine ∙ old.there in
-          let same : e ≡ old.entry = cc in
-          record {
-            entry = e';
-            there = ap (get st'.semaphores) (sym mine) ∙ semaphore_there;
-            belongs = home_kept y y.acquire refl (λ n under. not_mine g n y apart is (sym mine) under)
-                (subst (λ (d : SemaphoreEntry). Belongs d.core y.acquire) (sym same) old.belongs) old.open_still;
-            open_still = old.open_still;
-          }
-
-  home_all : (g : ℕ) (y : FutureEntry) → get st'.futures g ≡ Some y → IsHome st' y
-  home_all g y is = by_test (f == g) refl
-    where
-      by_test : (t : Bool) → (f == g) ≡ t → IsHome st' y
-      by_test false h = home_other g y (eqb-false f g h) (sym (future_other g (eqb-false f g h)) ∙ is)
-      by_test true h =
-          let here : o' ≡ Some y = sym (future_there refl) ∙ ap (get st'.futures) (eqb-true f g h) ∙ is in
-          record { entry = e'; there = ap (get st'.semaphores) (c.is_of y here) ∙ semaphore_there; belongs = (c.home y here).0; open_still = (c.home y here).1 }
+  home_other g y apart is =
+      let old = linked.home g y is in
+      home_still st st' s e' c.semaphores c.there y old (λ mine belongs. home_kept y y.acquire refl (λ n under. not_mine g n y apart is (sym mine) under) belongs old.open_still)
 
   -- an owner that is not f owns still
   abbrev owned_still : (q n d : ℕ) (w : IsOwned st q n d) → (f ≡ w.name → ⊥) → IsOwned st' q n d
@@ -140,48 +104,16 @@ module _ (st st' : Store) (b b' s f : ℕ) (e e' : SemaphoreEntry) (o o' : Optio
       let here : o ≡ Some w.entry = sym c.was ∙ ap (get st.futures) same ∙ w.there in
       apart (sym (c.was_of w.entry here) ∙ w.semaphore)
 
-  owned_all : (q : ℕ) (d : SemaphoreEntry) (n demand l : ℕ) → get st'.semaphores q ≡ Some d → cores.waiting d.core.queue n ≡ Some (demand, l)
-      → IsOwned st' q n demand
-  owned_all q d n demand l is waits = by_test (s == q) refl
-    where
-      at_s : s ≡ q → cores.waiting e'.core.queue n ≡ Some (demand, l) → IsOwned st' q n demand
-      at_s same now = elim (c.waits n demand l now) [
-        | inl mine ↦ record { name = f; entry = mine.0; there = future_there refl ∙ mine.1; semaphore = c.is_of mine.0 mine.1 ∙ same; acquire = mine.2 }
-        | inr before ↦
-            let w = linked.owned s e n demand before.1.0 c.there before.1.1 in
-            let apart : f ≡ w.name → ⊥ = owner_apart n demand w before.0 in
-            record { name = w.name; entry = w.entry; there = future_other w.name apart ∙ w.there; semaphore = w.semaphore ∙ same; acquire = w.acquire }
-      ]
-
-      by_test : (t : Bool) → (s == q) ≡ t → IsOwned st' q n demand
-      by_test true h =
-          let same : s ≡ q = eqb-true s q h in
-          let both : Some e' ≡ Some d = sym semaphore_there ∙ ap (get st'.semaphores) same ∙ is in
-          let one : d ≡ e' = cc in
-          at_s same (ap (λ (x : SemaphoreEntry). cores.waiting x.core.queue n) (sym one) ∙ waits)
-      by_test false h =
-          let old : get st.semaphores q ≡ Some d = sym (semaphore_other q (eqb-false s q h)) ∙ is in
-          let w = linked.owned q d n demand l old waits in
-          owned_still q n demand w (elsewhere_apart q n demand w (eqb-false s q h))
-
   -- so is what stands under a number that waits no more
   placed_all : (pairs : cores.Core ℕ → FinMap nat_cmp ℕ)
       → ((n d : ℕ) → get (pairs e'.core) n ≡ Some d → (has s n o ≡ false) × (get (pairs e.core) n ≡ Some d))
       → ((q : ℕ) (x : SemaphoreEntry) (n d : ℕ) → get st.semaphores q ≡ Some x → get (pairs x.core) n ≡ Some d → IsOwned st q n d)
       → (q : ℕ) (d : SemaphoreEntry) (n demand : ℕ) → get st'.semaphores q ≡ Some d → get (pairs d.core) n ≡ Some demand → IsOwned st' q n demand
-  placed_all pairs from owned q d n demand is placed = by_test (s == q) refl
-    where
-      by_test : (t : Bool) → (s == q) ≡ t → IsOwned st' q n demand
-      by_test true h =
-          let same : s ≡ q = eqb-true s q h in
-          let both : Some e' ≡ Some d = sym semaphore_there ∙ ap (get st'.semaphores) same ∙ is in
-          let one : d ≡ e' = cc in
-          let before = from n demand (ap (λ (x : SemaphoreEntry). get (pairs x.core) n) (sym one) ∙ placed) in
-          let w = owned s e n demand c.there before.1 in
-          subst (λ p. IsOwned st' p n demand) same (owned_still s n demand w (owner_apart n demand w before.0))
-      by_test false h =
-          let w = owned q d n demand (sym (semaphore_other q (eqb-false s q h)) ∙ is) placed in
-          owned_still q n demand w (elsewhere_apart q n demand w (eqb-false s q h))
+  placed_all pairs from owned q d n demand is placed = each_semaphore st st' s e' c.semaphores (λ q d. get (pairs d.core) n ≡ Some demand → IsOwned st' q n demand)
+      (λ now. let before = from n demand now in
+      let w = owned s e n demand c.there before.1 in owned_still s n demand w (owner_apart n demand w before.0))
+      (λ q d apart old placed. let w = owned q d n demand old placed in owned_still q n demand w (elsewhere_apart q n demand w apart))
+      q d is placed
 
   apart_all : (g h n : ℕ) (x y : FutureEntry) → get st'.futures g ≡ Some x → get st'.futures h ≡ Some y → x.semaphore ≡ y.semaphore
       → is_under x.acquire n ≡ true → is_under y.acquire n ≡ true → g ≡ h
@@ -201,38 +133,26 @@ module _ (st st' : Store) (b b' s f : ℕ) (e e' : SemaphoreEntry) (o o' : Optio
       by_tests false false p q =
           linked.apart g h n x y (sym (future_other g (eqb-false f g p)) ∙ isx) (sym (future_other h (eqb-false f h q)) ∙ isy) same ux uy
 
-  below_all : (g : ℕ) (y : FutureEntry) → get st'.futures g ≡ Some y → g < b'
-  below_all g y is = by_test (f == g) refl
-    where
-      by_test : (t : Bool) → (f == g) ≡ t → g < b'
-      by_test true h =
-          let same : f ≡ g = eqb-true f g h in
-          let small : f < b' = c.inside y (sym (future_there refl) ∙ ap (get st'.futures) same ∙ is) in
-          omega arith
-      by_test false h =
-          let small : g < b = linked.below g y (sym (future_other g (eqb-false f g h)) ∙ is) in
-          let more : b ≤ b' = c.rises in
-          omega arith
-
-  numbered_all : (q : ℕ) (d : SemaphoreEntry) → get st'.semaphores q ≡ Some d → IsNumbered d.core
-  numbered_all q d is = by_test (s == q) refl
-    where
-      by_test : (t : Bool) → (s == q) ≡ t → IsNumbered d.core
-      by_test true h =
-          let both : Some e' ≡ Some d = sym semaphore_there ∙ ap (get st'.semaphores) (eqb-true s q h) ∙ is in
-          let one : e' ≡ d = cc in
-          subst (λ (x : SemaphoreEntry). IsNumbered x.core) one c.numbered
-      by_test false h = linked.numbered q d (sym (semaphore_other q (eqb-false s q h)) ∙ is)
-
   pub linked_after : IsLinked st' b'
   linked_after = record {
-    home = home_all;
-    owned = owned_all;
+    home = λ g y is. by_name f g
+        (λ same. let here : o' ≡ Some y = sym (future_there refl) ∙ ap (get st'.futures) same ∙ is in
+        record { entry = e'; there = ap (get st'.semaphores) (c.is_of y here) ∙ semaphore_there st st' s e' c.semaphores; belongs = (c.home y here).0; open_still = (c.home y here).1 })
+        (λ apart. home_other g y apart (sym (future_other g apart) ∙ is));
+    owned = λ q d n demand l is waits. each_semaphore st st' s e' c.semaphores (λ q d. cores.waiting d.core.queue n ≡ Some (demand, l) → IsOwned st' q n demand)
+        (λ now. elim (c.waits n demand l now) [
+          | inl mine ↦ record { name = f; entry = mine.0; there = future_there refl ∙ mine.1; semaphore = c.is_of mine.0 mine.1; acquire = mine.2 }
+          | inr before ↦ (let w = linked.owned s e n demand before.1.0 c.there before.1.1 in owned_still s n demand w (owner_apart n demand w before.0))
+        ])
+        (λ q d apart old waits. let w = linked.owned q d n demand l old waits in owned_still q n demand w (elsewhere_apart q n demand w apart))
+        q d is waits;
     granted = placed_all (λ x. x.granted) c.grants linked.granted;
     cut = placed_all (λ x. x.cut) c.cut linked.cut;
     apart = apart_all;
-    below = below_all;
-    numbered = numbered_all;
+    below = λ g y is. by_name f g
+        (λ same. let small : f < b' = c.inside y (sym (future_there refl) ∙ ap (get st'.futures) same ∙ is) in omega arith)
+        (λ apart. let small : g < b = linked.below g y (sym (future_other g apart) ∙ is) in let more : b ≤ b' = c.rises in omega arith);
+    numbered = each_semaphore st st' s e' c.semaphores (λ q d. IsNumbered d.core) c.numbered (λ q d apart old. linked.numbered q d old);
   }
 
   -- ---- names stay
@@ -277,16 +197,7 @@ module _ (st st' : Store) (b b' s f : ℕ) (e e' : SemaphoreEntry) (o o' : Optio
           (option_map (semaphore_of st.futures b q) d)
       at_each q true h d is = ap (λ k. Some (semaphore_of st'.futures b' k e')) (sym (eqb-true s q h))
       at_each q false h None is = refl
-      at_each q false h (Some d) is = λ i. Some
-          (record {
-            free = d.core.free;
-            queue = queue_elsewhere q d (eqb-false s q h) is i;
-            made = d.made;
-            released = d.released;
-            forgotten = d.forgotten;
-            named = d.named;
-            closed = d.core.closed;
-          })
+      at_each q false h (Some d) is = λ i. Some (seen_as d (queue_elsewhere q d (eqb-false s q h) is i))
 
   stage_kept : (g : ℕ) (y : FutureEntry) (a : Acquire) → y.acquire ≡ a → (f ≡ g → ⊥) → get st.futures g ≡ Some y → y.semaphore ≡ s
       → stage_of a e'.core ≡ stage_of a e.core
@@ -299,24 +210,10 @@ module _ (st st' : Store) (b b' s f : ℕ) (e e' : SemaphoreEntry) (o o' : Optio
   stage_kept g y (Refused d) is apart at mine = refl
 
   future_kept : (g : ℕ) (y : FutureEntry) → (f ≡ g → ⊥) → get st.futures g ≡ Some y → future_of st'.semaphores y ≡ future_of st.semaphores y
-  future_kept g y apart is = by_test (s == y.semaphore) refl
-    where
-      by_test : (t : Bool) → (s == y.semaphore) ≡ t → future_of st'.semaphores y ≡ future_of st.semaphores y
-      by_test false h = λ i. record {
-        semaphore = y.semaphore;
-        demand = demand_of y.acquire;
-        plain = y.plain;
-        forgets = y.forgets;
-        stage = stage_of y.acquire (core_in (semaphore_other y.semaphore (eqb-false s y.semaphore h) i));
-      }
-      by_test true h =
-          let mine : s ≡ y.semaphore = eqb-true s y.semaphore h in
-          let now : get st'.semaphores y.semaphore ≡ Some e' = ap (get st'.semaphores) (sym mine) ∙ semaphore_there in
-          let then : get st.semaphores y.semaphore ≡ Some e = ap (get st.semaphores) (sym mine) ∙ c.there in
-          let same : stage_of y.acquire (core_in (get st'.semaphores y.semaphore)) ≡ stage_of y.acquire (core_in (get st.semaphores y.semaphore)) =
-          ap (λ d. stage_of y.acquire (core_in d)) now ∙ stage_kept g y y.acquire refl apart is (sym mine)
-          ∙ sym (ap (λ d. stage_of y.acquire (core_in d)) then) in
-          λ i. record { semaphore = y.semaphore; demand = demand_of y.acquire; plain = y.plain; forgets = y.forgets; stage = same i }
+  future_kept g y apart is = ap (at_stage y) (by_name s y.semaphore
+      (λ mine. ap (λ d. stage_of y.acquire (core_in d)) (ap (get st'.semaphores) (sym mine) ∙ semaphore_there st st' s e' c.semaphores)
+      ∙ stage_kept g y y.acquire refl apart is (sym mine) ∙ sym (ap (λ d. stage_of y.acquire (core_in d)) (ap (get st.semaphores) (sym mine) ∙ c.there)))
+      (λ other. ap (λ d. stage_of y.acquire (core_in d)) (semaphore_other st st' s e' c.semaphores y.semaphore other)))
 
   futures_at : (g : ℕ) → get (hall_of st' b').futures g ≡ cond (f == g) (option_map (future_of st'.semaphores) o') (get (hall_of st b).futures g)
   futures_at g =
@@ -336,10 +233,22 @@ module _ (st st' : Store) (b b' s f : ℕ) (e e' : SemaphoreEntry) (o o' : Optio
       (λ g. futures_at g ∙ ap (λ d. cond (f == g) (option_map (future_of st'.semaphores) d) (get (hall_of st b).futures g)) is
       ∙ sym (get_inserted (hall_of st b).futures f g (future_of st'.semaphores x)))
 
-  pub futures_gone : o' ≡ None → (hall_of st' b').futures ≡ remove (hall_of st b).futures f
+  futures_gone : o' ≡ None → (hall_of st' b').futures ≡ remove (hall_of st b).futures f
   futures_gone is = same_named _ _
       (λ g. futures_at g ∙ ap (λ d. cond (f == g) (option_map (future_of st'.semaphores) d) (get (hall_of st b).futures g)) is
       ∙ sym (get_removed (hall_of st b).futures f g))
+
+  -- it is gone, and these wait
+  pub hall_without : (queue : List (Who × ℕ)) → o' ≡ None → queue_of st'.futures b' s e'.core.queue ≡ queue → hall_of st' b' ≡ record {
+    semaphores = insert (hall_of st b).semaphores s (seen_as e' queue);
+    futures = remove (hall_of st b).futures f;
+    permits = st'.permits;
+  }
+  hall_without queue gone same = λ j. record {
+    semaphores = (semaphores_after ∙ ap (λ q. insert (hall_of st b).semaphores s (seen_as e' q)) same) j;
+    futures = futures_gone gone j;
+    permits = st'.permits;
+  }
 
   -- there is no such future, neither before nor after
   pub futures_same : o ≡ None → o' ≡ None → (hall_of st' b').futures ≡ (hall_of st b).futures

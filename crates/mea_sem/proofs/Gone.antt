@@ -16,11 +16,11 @@ use Rattle.mea_sem_core.specs.Core as cores
 use Rattle.mea_sem_core.specs.Calls.{Belongs}
 use Rattle.mea_sem.specs.declared.entries.SemaphoreEntry.{SemaphoreEntry}
 use Rattle.mea_sem.specs.declared.entries.FutureEntry.{FutureEntry}
-use Rattle.mea_sem.specs.Store.{Store, has, queue_of, core_in, stage_of, future_of, hall_of, IsNumbered, IsLinked}
+use Rattle.mea_sem.specs.Store.{Store, has, queue_of, seen_as, core_in, stage_of, future_of, hall_of, IsNumbered, IsLinked}
 use Rattle.mea_sem.specs.Store.{is_under}
 use Rattle.mea_sem.proofs.ClosedCores.{keeps_closed}
 use Rattle.mea_sem.proofs.Stages.{granted_idle, granted_uncut, cut_idle}
-use Rattle.mea_sem.proofs.Changes.{Changes, linked_after, queue_kept, semaphores_after, futures_gone}
+use Rattle.mea_sem.proofs.Changes.{Changes, linked_after, queue_kept, hall_without}
 
 -- a future as it is seen, at a stage that is known
 pub seen_future : (st : Store) (b f : ℕ) (x : FutureEntry) (e : SemaphoreEntry) (a : Acquire) (z : FutureStage) → get st.futures f ≡ Some x
@@ -93,20 +93,6 @@ module _ (st st' : Store) (next i s f : ℕ) (x : FutureEntry) (e e' : Semaphore
   belongs_on d n free (inl (inr waits)) = inl (inr (waits.0, ap (λ q. cores.waiting q n) c.queue ∙ waits.1))
   belongs_on d n free (inr cut) = inr (c.closed ∙ cut.0, c.cut.others n free ∙ cut.1)
 
-  numbered_on : IsNumbered e'.core
-  numbered_on =
-      let old : IsNumbered e.core = linked.numbered s e c.there in
-      record {
-        apart = subst cores.AreApart (sym c.queue) old.apart;
-        granted_apart = λ n waits. c.granted.none_more n (old.granted_apart n (λ none. waits (ap (λ q. cores.waiting q n) c.queue ∙ none)));
-        cut_apart = λ n some.
-            let before = old.cut_apart n (λ none. some (c.cut.none_more n none)) in
-            (ap (λ q. cores.waiting q n) c.queue ∙ before.0, c.granted.none_more n before.1);
-        closing = keeps_closed e.core.closed e'.core.closed e.core.queue e'.core.queue e.core.cut e'.core.cut c.closed
-            (λ h. subst cores.HasOnlyDebts (sym c.queue) h)
-            (λ h. same_named _ _ (λ n. c.cut.none_more n (ap (λ m. get m n) h ∙ get-empty nat_cmp n) ∙ sym (get-empty nat_cmp n))) old.closing;
-      }
-
   pub changes_gone : Changes st st' next (i + 1) s f e e' (Some x) None
   changes_gone = record {
     there = c.there;
@@ -126,34 +112,30 @@ module _ (st st' : Store) (next i s f : ℕ) (x : FutureEntry) (e e' : Semaphore
     cut = λ n d is. kept_from (λ m. has s m (Some x)) e.core.cut e'.core.cut c.cut n d is;
     cuts = λ n free free_now. c.cut.others n free;
     alone = λ g n y z is. absurd (cc);
-    numbered = numbered_on;
+    numbered =
+        let old : IsNumbered e.core = linked.numbered s e c.there in
+        record {
+          apart = subst cores.AreApart (sym c.queue) old.apart;
+          granted_apart = λ n waits. c.granted.none_more n (old.granted_apart n (λ none. waits (ap (λ q. cores.waiting q n) c.queue ∙ none)));
+          cut_apart = λ n some.
+              let before = old.cut_apart n (λ none. some (c.cut.none_more n none)) in
+              (ap (λ q. cores.waiting q n) c.queue ∙ before.0, c.granted.none_more n before.1);
+          closing = keeps_closed e.core.closed e'.core.closed e.core.queue e'.core.queue e.core.cut e'.core.cut c.closed
+              (λ h. subst cores.HasOnlyDebts (sym c.queue) h)
+              (λ h. same_named _ _ (λ n. c.cut.none_more n (ap (λ m. get m n) h ∙ get-empty nat_cmp n) ∙ sym (get-empty nat_cmp n))) old.closing;
+        };
   }
 
   pub linked_gone : IsLinked st' (i + 1)
   linked_gone = linked_after st st' next (i + 1) s f e e' (Some x) None linked changes_gone
 
   pub hall_gone : hall_of st' (i + 1) ≡ record {
-    semaphores = insert (hall_of st next).semaphores s
-        (record {
-          free = e'.core.free;
-          queue = queue_of st.futures next s e.core.queue;
-          made = e'.made;
-          released = e'.released;
-          forgotten = e'.forgotten;
-          named = e'.named;
-          closed = e'.core.closed;
-        });
+    semaphores = insert (hall_of st next).semaphores s (seen_as e' (queue_of st.futures next s e.core.queue));
     futures = remove (hall_of st next).futures f;
     permits = st'.permits;
   }
-  hall_gone = λ j. record {
-    semaphores = (semaphores_after st st' next (i + 1) s f e e' (Some x) None linked changes_gone
-        ∙ ap (λ p. insert (hall_of st next).semaphores s
-        (record { free = e'.core.free; queue = p; made = e'.made; released = e'.released; forgotten = e'.forgotten; named = e'.named; closed = e'.core.closed }))
-        (ap (queue_of st'.futures (i + 1) s) c.queue ∙ queue_kept st st' next (i + 1) s f e e' (Some x) None linked changes_gone c.idle)) j;
-    futures = futures_gone st st' next (i + 1) s f e e' (Some x) None linked changes_gone refl j;
-    permits = st'.permits;
-  }
+  hall_gone = hall_without st st' next (i + 1) s f e e' (Some x) None linked changes_gone _ refl
+      (ap (queue_of st'.futures (i + 1) s) c.queue ∙ queue_kept st st' next (i + 1) s f e e' (Some x) None linked changes_gone c.idle)
 
 -- ---- the ways in which a future leaves that does not wait
 

@@ -1,7 +1,6 @@
 -- an event that changes one semaphore keeps what a hall keeps to
-use Rattle.std.proofs.Common.{◌≡◌, ℕ, ◌+◌, ◌^◌, ◌<◌, ◌≤◌, ◌==◌, Bool, true, false, cond, refl, ap, sym, subst, ◌∙◌, arith, Some, None, []}
+use Rattle.std.proofs.Common.{◌≡◌, ℕ, ◌+◌, ◌^◌, ◌<◌, ◌≤◌, ◌==◌, cond, refl, ap, sym, subst, ◌∙◌, arith, Some, None, []}
 use Rattle.std.specs.FinMap.{get, insert}
-use Rattle.std.proofs.lemmas.Bool.{eqb-true, eqb-false}
 use Rattle.mea_base.specs.Totals.{total, weight}
 use Rattle.mea_base.proofs.NamedMaps.{same_named}
 use Rattle.mea_base.proofs.Totals.{get_inserted, total-insert}
@@ -17,7 +16,8 @@ use Rattle.mea_sem_core.specs.Core as cores
 use Rattle.mea_sem.specs.declared.entries.SemaphoreEntry.{SemaphoreEntry}
 use Rattle.mea_sem.specs.Store.{Store, hall_of, IsLinked}
 use Rattle.mea_sem.specs.Kept.{wakers_in, IsKeptEntry, AreKeptSemaphores}
-use Rattle.mea_sem.proofs.Weighs.{Weighs, Things, if_plain, always}
+use Rattle.mea_sem.proofs.Replaced.{each_semaphore}
+use Rattle.mea_sem.proofs.Weighs.{Weighs, Things, nothing, if_plain, always}
 
 -- event i is played on what is kept
 pub record Plays (st st' : Store) (next i : ℕ) (event : SemEvent) (w' sp' : ℕ) : Type 0 where
@@ -35,6 +35,21 @@ pub record Settles (e e' : SemaphoreEntry) (a b : ℕ) (p r : Things) : Type 0 w
   pub released : e'.released ≤ e.released + 2 ^ 64
   pub forgotten : e'.forgotten ≤ e.forgotten + 2 ^ 64
 
+-- it has as many things, and nothing was released
+pub with_things : {e e' : SemaphoreEntry} {a b : ℕ} → e'.core.live + e'.forgotten ≡ e'.made + e'.released + cores.debts e'.core.queue
+    → cores.held_of e'.core + a ≡ cores.held_of e.core + b → e'.plain ≡ e.plain → e'.things ≡ e.things → e'.core.wakes ≡ [] → e'.released ≡ e.released
+    → e'.forgotten ≤ e.forgotten + 2 ^ 64 → Settles e e' a b nothing nothing
+with_things account held plain things quiet released forgotten = record {
+  account = account;
+  held = held;
+  plain = ap (λ n. n + 0) plain;
+  things = ap (λ n. n + 0) things;
+  few = (omega arith, omega arith);
+  quiet = quiet;
+  released = omega (arith, released);
+  forgotten = forgotten;
+}
+
 module _ (st st' : Store) (w sp next i s : ℕ) (event : SemEvent) (e e' : SemaphoreEntry) (k : AreKeptSemaphores st w sp next) (less : next ≤ i)
     (low : i < 2 ^ 64) (fits : Fits event) (allowed : cause_of (hall_of st next) event ≡ None) where
   pub settled : (w' sp' a b : ℕ) (p r : Things) → get st.semaphores s ≡ Some e → ((q : ℕ) → get st'.semaphores q ≡ cond (s == q) (Some e') (get st.semaphores q))
@@ -51,8 +66,16 @@ module _ (st st' : Store) (w sp next i s : ℕ) (event : SemEvent) (e e' : Semap
       accounted = λ q. subst (λ h. IsAccounted h q) (sym same)
           (keeps_account (hall_of st next) i event k.valid (below_later (hall_of st next) next i less k.below) allowed k.accounted q);
       linked = linked;
-      each = λ q d is. subst (λ h. IsKeptEntry h (i + 1) q d) (sym same) (by_test q d is (s == q) refl);
-      counted = count_now;
+      each = λ q d is. subst (λ h. IsKeptEntry h (i + 1) q d) (sym same) (each_semaphore st st' s e' semaphores (λ q d. IsKeptEntry (step (hall_of st next) i event).hall (i + 1) q d) here
+          (λ q d apart old. other q d apart (k.each q d old)) q d is);
+      counted =
+          let sums = total-insert (λ q (x : SemaphoreEntry). wakers_in x.core.queue) st.semaphores s e' in
+          let mine : weight (λ q (x : SemaphoreEntry). wakers_in x.core.queue) s (get st.semaphores s) ≡ wakers_in e.core.queue =
+          ap (weight (λ q (x : SemaphoreEntry). wakers_in x.core.queue) s) there in
+          let now : total (λ q (x : SemaphoreEntry). wakers_in x.core.queue) st'.semaphores ≡ total (λ q (x : SemaphoreEntry). wakers_in x.core.queue)
+          (insert st.semaphores s e') = ap (total (λ q (x : SemaphoreEntry). wakers_in x.core.queue)) inserted in
+          let before = k.counted in
+          omega (arith, sums, mine, now, before, registered);
       room = room;
       few = few;
       low = omega arith;
@@ -95,29 +118,8 @@ module _ (st st' : Store) (w sp next i s : ℕ) (event : SemEvent) (e e' : Semap
         forgotten = (let t = o.forgotten in omega (arith, t));
       }
 
-      by_test : (q : ℕ) (d : SemaphoreEntry) → get st'.semaphores q ≡ Some d → (t : Bool) → (s == q) ≡ t
-          → IsKeptEntry (step (hall_of st next) i event).hall (i + 1) q d
-      by_test q d is true h =
-          let mine : s ≡ q = eqb-true s q h in
-          let both : Some e' ≡ Some d = sym (at_same s q (Some e') (get st.semaphores q) mine) ∙ sym (semaphores q) ∙ is in
-          let one : e' ≡ d = cc in
-          subst (λ (x : SemaphoreEntry). IsKeptEntry (step (hall_of st next) i event).hall (i + 1) q x) one
-          (subst (λ x. IsKeptEntry (step (hall_of st next) i event).hall (i + 1) x e') mine here)
-      by_test q d is false h = other q d (eqb-false s q h)
-          (k.each q d (sym (at_apart s q (Some e') (get st.semaphores q) (eqb-false s q h)) ∙ sym (semaphores q) ∙ is))
-
       inserted : st'.semaphores ≡ insert st.semaphores s e'
       inserted = same_named _ _ (λ q. semaphores q ∙ sym (get_inserted st.semaphores s q e'))
-
-      count_now : w' ≡ total (λ q (x : SemaphoreEntry). wakers_in x.core.queue) st'.semaphores
-      count_now =
-          let sums = total-insert (λ q (x : SemaphoreEntry). wakers_in x.core.queue) st.semaphores s e' in
-          let mine : weight (λ q (x : SemaphoreEntry). wakers_in x.core.queue) s (get st.semaphores s) ≡ wakers_in e.core.queue =
-          ap (weight (λ q (x : SemaphoreEntry). wakers_in x.core.queue) s) there in
-          let now : total (λ q (x : SemaphoreEntry). wakers_in x.core.queue) st'.semaphores ≡ total (λ q (x : SemaphoreEntry). wakers_in x.core.queue)
-          (insert st.semaphores s e') = ap (total (λ q (x : SemaphoreEntry). wakers_in x.core.queue)) inserted in
-          let before = k.counted in
-          omega (arith, sums, mine, now, before, registered)
 
   -- the same, where the outcome of the event is known under another name
   pub settled_as : (h' : Hall) → (step (hall_of st next) i event).hall ≡ h' → (w' sp' a b : ℕ) (p r : Things) → get st.semaphores s ≡ Some e

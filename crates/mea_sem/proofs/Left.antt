@@ -12,13 +12,13 @@ use Rattle.mea_sem_core.specs.Core as cores
 use Rattle.mea_sem_core.specs.Calls.{Belongs, without_acquire}
 use Rattle.mea_sem.specs.declared.entries.SemaphoreEntry.{SemaphoreEntry}
 use Rattle.mea_sem.specs.declared.entries.FutureEntry.{FutureEntry}
-use Rattle.mea_sem.specs.Store.{Store, is_under, has, who_of, queue_of, hall_of, IsNumbered, IsLinked}
+use Rattle.mea_sem.specs.Store.{Store, is_under, has, who_of, queue_of, seen_as, hall_of, IsNumbered, IsLinked}
 use Rattle.mea_sem.specs.Kept.{wakers_in}
 use Rattle.mea_sem.proofs.ClosedCores.{keeps_closed}
 use Rattle.mea_sem.proofs.Cores.{Queue, IsAt, all_at, all_by, is_number, waiting-without, waker-without, only-waiting}
 use Rattle.mea_sem.proofs.Stages.{cut_idle}
 use Rattle.mea_sem.proofs.Seen.{names-number}
-use Rattle.mea_sem.proofs.Changes.{Changes, linked_after, semaphores_after, futures_gone, name_kept}
+use Rattle.mea_sem.proofs.Changes.{Changes, linked_after, name_kept, hall_without}
 use Rattle.mea_sem_core.proofs.Without.{AreApart-without}
 
 -- whether a waiter is named as f where it has the number n
@@ -255,25 +255,10 @@ module _ (st st' : Store) (next i s f n d k : ℕ) (x : FutureEntry) (e e' : Sem
   same_names ((cores.Owes, l) ∷ q) h = ap (λ t. (Debt, l) ∷ t) (same_names q h.1)
 
   pub hall_left : hall_of st' (i + 1) ≡ record {
-    semaphores = insert (hall_of st next).semaphores s
-        (record {
-          free = e'.core.free;
-          queue = without (queue_of st.futures next s e.core.queue) f;
-          made = e'.made;
-          released = e'.released;
-          forgotten = e'.forgotten;
-          named = e'.named;
-          closed = e'.core.closed;
-        });
+    semaphores = insert (hall_of st next).semaphores s (seen_as e' (without (queue_of st.futures next s e.core.queue) f));
     futures = remove (hall_of st next).futures f;
     permits = st'.permits;
   }
-  hall_left = λ j. record {
-    semaphores = (semaphores_after st st' next (i + 1) s f e e' (Some x) None linked changes_left
-        ∙ ap (λ p. insert (hall_of st next).semaphores s
-        (record { free = e'.core.free; queue = p; made = e'.made; released = e'.released; forgotten = e'.forgotten; named = e'.named; closed = e'.core.closed }))
-        (ap (queue_of st'.futures (i + 1) s) queue ∙ same_names e.core.queue (all_at e.core.queue numbered.apart)
-        ∙ without_seen (who_of st.futures next s) f n e.core.queue all_named)) j;
-    futures = futures_gone st st' next (i + 1) s f e e' (Some x) None linked changes_left refl j;
-    permits = st'.permits;
-  }
+  hall_left = hall_without st st' next (i + 1) s f e e' (Some x) None linked changes_left _ refl
+      (ap (queue_of st'.futures (i + 1) s) queue ∙ same_names e.core.queue (all_at e.core.queue numbered.apart)
+      ∙ without_seen (who_of st.futures next s) f n e.core.queue all_named)

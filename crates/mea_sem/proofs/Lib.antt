@@ -2,6 +2,7 @@ pub mod ClosedCores
 pub mod Cores
 pub mod Names
 pub mod Stages
+pub mod Replaced
 pub mod Changes
 pub mod Seen
 pub mod MoveHalls
@@ -39,3 +40,4 @@ pub mod StandingPermits
 pub mod StandingWaits
 pub mod Turns
 pub mod Lists
+pub mod StandingActions

@@ -9,9 +9,9 @@ use Rattle.mea_sem_model.specs.Waiters.{waiters}
 use Rattle.mea_sem.specs.declared.family.SemFamily.TheInside.{Inside as Kept}
 use Rattle.mea_sem.specs.Play.{Play}
 use Rattle.mea_sem.specs.Store.{Store, hall_of}
-use Rattle.mea_sem.specs.Kept.{AreKept, AreKeptSemaphores, wakers_of_all}
-use Rattle.mea_sem.proofs.Inside.{Inside, lent, part_of, played_with}
-use Rattle.mea_sem.proofs.Meets.{Meets, Done, store_in, hall_in, registered_in, IsKeptIn}
+use Rattle.mea_sem.specs.Kept.{AreKept, AreKeptSemaphores}
+use Rattle.mea_sem.proofs.Inside.{Inside, lent, part_of}
+use Rattle.mea_sem.proofs.Meets.{Meets, Done, hall_in, registered_in, IsKeptIn}
 use Rattle.mea_sem.proofs.StandingSemaphores.{kept_room}
 use Rattle.mea_sem.proofs.Registered.{waiters-counted, waiters-kept}
 

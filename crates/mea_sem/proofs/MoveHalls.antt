@@ -1,5 +1,5 @@
 -- some leave the queue of a core and come to a stage, in the core and in the hall that is stood for
-use Rattle.std.proofs.Common.{◌≡◌, ◌⊎◌, inl, inr, ℕ, ◌==◌, Bool, true, false, cond, List, map, refl, ap, sym, subst, ◌∙◌, Option, Some, None}
+use Rattle.std.proofs.Common.{◌≡◌, ◌⊎◌, inl, inr, ℕ, ◌==◌, Bool, true, false, cond, List, map, refl, ap, sym, ◌∙◌, Option, Some, None}
 use Rattle.std.specs.List.{AllByRecursion}
 use Rattle.std.specs.Option.{option_map}
 use Rattle.std.specs.Ordering.{nat_cmp}
@@ -7,17 +7,16 @@ use Rattle.std.specs.FinMap.{FinMap, get, insert}
 use Rattle.std.proofs.lemmas.Bool.{eqb-true, eqb-false}
 use Rattle.mea_base.proofs.NamedMaps.{same_named, get-seen}
 use Rattle.mea_base.proofs.Totals.{get_inserted}
-use Rattle.mea_base.proofs.Tests.{at_same, at_apart}
 use Rattle.mea_sem_model.specs.Hall.{Future, FutureStage, Who, staged, stage_all}
 use Rattle.mea_sem_model.proofs.HallLemmas.{among, get-stage_all}
 use Rattle.mea_sem_core.specs.declared.acquire.Acquire.{Acquire}
 use Rattle.mea_sem_core.specs.declared.acquire.Acquire.TheVariants as acquires
-use Rattle.mea_sem_core.specs.Acquire.{demand_of}
 use Rattle.mea_sem_core.specs.Core as cores
 use Rattle.mea_sem_core.specs.Calls.{Belongs, IsCutAs}
 use Rattle.mea_sem.specs.declared.entries.SemaphoreEntry.{SemaphoreEntry}
 use Rattle.mea_sem.specs.declared.entries.FutureEntry.{FutureEntry}
-use Rattle.mea_sem.specs.Store.{Store, is_under, has, who_of, semaphore_of, stage_of, stage_under, core_in, future_of, hall_of, IsHome, IsOwned, IsNumbered, IsLinked}
+use Rattle.mea_sem.specs.Store.{Store, is_under, has, who_of, semaphore_of, stage_of, stage_under, core_in, future_of, hall_of, IsOwned, IsNumbered, IsLinked, at_stage}
+use Rattle.mea_sem.proofs.Replaced.{semaphore_there, semaphore_other, each_semaphore, home_still, future_back, owned_on}
 use Rattle.mea_sem.proofs.Cores.{IsAt, is_among, Splits}
 use Rattle.mea_sem.proofs.Seen.{among-number, among-unnamed}
 use Rattle.mea_sem.proofs.Names.{has-parts}
@@ -45,15 +44,6 @@ pub record MovesInto (st st' : Store) (s : ℕ) (t : FutureStage) (ws : List (co
 
 module _ (st st' : Store) (b s : ℕ) (t : FutureStage) (ws : List (cores.Waiter ℕ)) (e e' : SemaphoreEntry) (linked : IsLinked st b)
     (c : MovesInto st st' s t ws e e') where
-  semaphore_there : get st'.semaphores s ≡ Some e'
-  semaphore_there = c.semaphores s ∙ at_same s s (Some e') (get st.semaphores s) refl
-
-  semaphore_other : (q : ℕ) → (s ≡ q → ⊥) → get st'.semaphores q ≡ get st.semaphores q
-  semaphore_other q apart = c.semaphores q ∙ at_apart s q (Some e') (get st.semaphores q) apart
-
-  future_back : (g : ℕ) (y : FutureEntry) → get st'.futures g ≡ Some y → get st.futures g ≡ Some y
-  future_back g y is = ap (λ m. get m g) (sym c.futures) ∙ is
-
   -- who waited waits on, or is at the stage
   waits_or_placed : (d k l : ℕ) → cores.waiting e.core.queue k ≡ Some (d, l) → Belongs e'.core (acquires.Queued d k)
   waits_or_placed d k l is = elim ((c.splits k).some d l is) [
@@ -69,95 +59,31 @@ module _ (st st' : Store) (b s : ℕ) (t : FutureStage) (ws : List (cores.Waiter
   belongs_still (acquires.Queued d k) (inl (inr waits)) = waits_or_placed d k waits.0 waits.1
   belongs_still (acquires.Queued d k) (inr cut) = inr (c.closed_still cut.0, c.cut_still k d cut.1)
 
-  home_all : (g : ℕ) (y : FutureEntry) → get st'.futures g ≡ Some y → IsHome st' y
-  home_all g y is = by_test (s == y.semaphore) refl
-    where
-      old : IsHome st y
-      old = linked.home g y (future_back g y is)
-
-      by_test : (t : Bool) → (s == y.semaphore) ≡ t → IsHome st' y
-      by_test false h = record {
-        entry = old.entry;
-        there = semaphore_other y.semaphore (eqb-false s y.semaphore h)
-            ∙ old.there;
-        belongs = old.belongs;
-        open_still = old.open_still;
-      }
-      by_test true h =
-          let mine : s ≡ y.semaphore = eqb-true s y.semaphore h in
-          let both : Some e ≡ Some old.entry = sym c.there ∙ ap (get st.semaphores) mine ∙ old.there in
-          let same : e ≡ old.entry = cc in
-          record {
-            entry = e';
-            there = ap (get st'.semaphores) (sym mine) ∙ semaphore_there;
-            belongs = belongs_still y.acquire (subst (λ (d : SemaphoreEntry). Belongs d.core y.acquire) (sym same) old.belongs);
-            open_still = old.open_still;
-          }
-
-  owned_moved : (q k d : ℕ) → IsOwned st q k d → IsOwned st' q k d
-  owned_moved q k d w = record {
-    name = w.name;
-    entry = w.entry;
-    there = ap (λ m. get m w.name) c.futures
-        ∙ w.there;
-    semaphore = w.semaphore;
-    acquire = w.acquire;
-  }
-
-  owned_all : (q : ℕ) (d : SemaphoreEntry) (k demand l : ℕ) → get st'.semaphores q ≡ Some d → cores.waiting d.core.queue k ≡ Some (demand, l)
-      → IsOwned st' q k demand
-  owned_all q d k demand l is waits = by_test (s == q) refl
-    where
-      by_test : (t : Bool) → (s == q) ≡ t → IsOwned st' q k demand
-      by_test false h = owned_moved q k demand (linked.owned q d k demand l (sym (semaphore_other q (eqb-false s q h)) ∙ is) waits)
-      by_test true h =
-          let same : s ≡ q = eqb-true s q h in
-          let both : Some e' ≡ Some d = sym semaphore_there ∙ ap (get st'.semaphores) same ∙ is in
-          let one : d ≡ e' = cc in
-          let now : cores.waiting e'.core.queue k ≡ Some (demand, l) = ap (λ (x : SemaphoreEntry). cores.waiting x.core.queue k) (sym one) ∙ waits in
-          let before = (c.splits k).waits demand l now in
-          subst (λ p. IsOwned st' p k demand) same (owned_moved s k demand (linked.owned s e k demand before.0 c.there before.1))
-
   -- what stands now under a number that waits no more stood there before, or waited
   placed_all : (pairs : cores.Core ℕ → FinMap nat_cmp ℕ)
       → ((k d : ℕ) → get (pairs e'.core) k ≡ Some d → (get (pairs e.core) k ≡ Some d) ⊎ ((l : ℕ) × (cores.waiting e.core.queue k ≡ Some (d, l))))
       → ((q : ℕ) (x : SemaphoreEntry) (k d : ℕ) → get st.semaphores q ≡ Some x → get (pairs x.core) k ≡ Some d → IsOwned st q k d)
       → (q : ℕ) (d : SemaphoreEntry) (k demand : ℕ) → get st'.semaphores q ≡ Some d → get (pairs d.core) k ≡ Some demand → IsOwned st' q k demand
-  placed_all pairs from owned q d k demand is placed = by_test (s == q) refl
-    where
-      at_s : get (pairs e'.core) k ≡ Some demand → IsOwned st' s k demand
-      at_s now = elim (from k demand now) [
-        | inl before ↦ owned_moved s k demand (owned s e k demand c.there before)
-        | inr waited ↦ owned_moved s k demand (linked.owned s e k demand waited.0 c.there waited.1)
-      ]
-
-      by_test : (t : Bool) → (s == q) ≡ t → IsOwned st' q k demand
-      by_test false h = owned_moved q k demand (owned q d k demand (sym (semaphore_other q (eqb-false s q h)) ∙ is) placed)
-      by_test true h =
-          let same : s ≡ q = eqb-true s q h in
-          let both : Some e' ≡ Some d = sym semaphore_there ∙ ap (get st'.semaphores) same ∙ is in
-          let one : d ≡ e' = cc in
-          subst (λ p. IsOwned st' p k demand) same (at_s (ap (λ (x : SemaphoreEntry). get (pairs x.core) k) (sym one) ∙ placed))
-
-  numbered_all : (q : ℕ) (d : SemaphoreEntry) → get st'.semaphores q ≡ Some d → IsNumbered d.core
-  numbered_all q d is = by_test (s == q) refl
-    where
-      by_test : (t : Bool) → (s == q) ≡ t → IsNumbered d.core
-      by_test true h =
-          let both : Some e' ≡ Some d = sym semaphore_there ∙ ap (get st'.semaphores) (eqb-true s q h) ∙ is in
-          let one : e' ≡ d = cc in
-          subst (λ (x : SemaphoreEntry). IsNumbered x.core) one c.numbered
-      by_test false h = linked.numbered q d (sym (semaphore_other q (eqb-false s q h)) ∙ is)
+  placed_all pairs from owned q d k demand is placed = each_semaphore st st' s e' c.semaphores (λ q d. get (pairs d.core) k ≡ Some demand → IsOwned st' q k demand)
+      (λ now. elim (from k demand now) [
+        | inl before ↦ owned_on st st' c.futures s k demand (owned s e k demand c.there before)
+        | inr waited ↦ owned_on st st' c.futures s k demand (linked.owned s e k demand waited.0 c.there waited.1)
+      ])
+      (λ q d apart old placed. owned_on st st' c.futures q k demand (owned q d k demand old placed))
+      q d is placed
 
   pub linked_moved : IsLinked st' b
   linked_moved = record {
-    home = home_all;
-    owned = owned_all;
+    home = λ g y is. home_still st st' s e' c.semaphores c.there y (linked.home g y (future_back st st' c.futures g y is)) (λ mine belongs. belongs_still y.acquire belongs);
+    owned = λ q d k demand l is waits. each_semaphore st st' s e' c.semaphores (λ q d. cores.waiting d.core.queue k ≡ Some (demand, l) → IsOwned st' q k demand)
+        (λ now. let before = (c.splits k).waits demand l now in owned_on st st' c.futures s k demand (linked.owned s e k demand before.0 c.there before.1))
+        (λ q d apart old waits. owned_on st st' c.futures q k demand (linked.owned q d k demand l old waits))
+        q d is waits;
     granted = placed_all (λ x. x.granted) c.granted_from linked.granted;
     cut = placed_all (λ x. x.cut) c.cut_from linked.cut;
-    apart = λ g h k x y isx isy. linked.apart g h k x y (future_back g x isx) (future_back h y isy);
-    below = λ g y is. linked.below g y (future_back g y is);
-    numbered = numbered_all;
+    apart = λ g h k x y isx isy. linked.apart g h k x y (future_back st st' c.futures g x isx) (future_back st st' c.futures h y isy);
+    below = λ g y is. linked.below g y (future_back st st' c.futures g y is);
+    numbered = each_semaphore st st' s e' c.semaphores (λ q d. IsNumbered d.core) c.numbered (λ q d apart old. linked.numbered q d old);
   }
 
   -- ---- the semaphores
@@ -179,10 +105,6 @@ module _ (st st' : Store) (b s : ℕ) (t : FutureStage) (ws : List (cores.Waiter
   -- those who leave, by name
   abbrev left_names : List Who
   left_names = map (who_of st.futures b s) ws
-
-  same_future : (y : FutureEntry) → stage_of y.acquire (core_in (get st'.semaphores y.semaphore)) ≡ stage_of y.acquire
-      (core_in (get st.semaphores y.semaphore)) → future_of st'.semaphores y ≡ future_of st.semaphores y
-  same_future y same = λ i. record { semaphore = y.semaphore; demand = demand_of y.acquire; plain = y.plain; forgets = y.forgets; stage = same i }
 
   staged_by : (x : Future) (z : FutureStage) (u : Bool) → z ≡ cond u t x.stage → ◌≡◌ {A = Future} (record x { stage = z }) (cond u (staged t x) x)
   staged_by x z true h = λ i. record x { stage = h i }
@@ -209,44 +131,32 @@ module _ (st st' : Store) (b s : ℕ) (t : FutureStage) (ws : List (cores.Waiter
       → stage_of y.acquire (core_in (get st'.semaphores y.semaphore)) ≡ stage_of y.acquire (core_in (get st.semaphores y.semaphore))
       → future_of st'.semaphores y ≡ cond (among left_names g) (staged t (future_of st.semaphores y)) (future_of st.semaphores y)
   unmoved g y is none same =
-      same_future y same
+      ap (at_stage y) same
       ∙ ap (λ u. cond u (staged t (future_of st.semaphores y)) (future_of st.semaphores y))
       (sym (among-unnamed st b s e linked c.there g (λ k. no_number k g y is (has s k (get st.futures g)) refl (none k)) ws c.found))
 
+  without_number : (g : ℕ) (y : FutureEntry) (a : Acquire) → y.acquire ≡ a → get st.futures g ≡ Some y → ((k : ℕ) → is_under a k ≡ false)
+      → ((x z : cores.Core ℕ) → stage_of a x ≡ stage_of a z)
+      → future_of st'.semaphores y ≡ cond (among left_names g) (staged t (future_of st.semaphores y)) (future_of st.semaphores y)
+  without_number g y a acquire is none alike = unmoved g y is (λ k h. not_under k (has-parts s k (get st.futures g) h))
+      (ap (λ a. stage_of a (core_in (get st'.semaphores y.semaphore))) acquire ∙ alike _ _
+      ∙ sym (ap (λ a. stage_of a (core_in (get st.semaphores y.semaphore))) acquire))
+    where
+      not_under : (k : ℕ) → (x : FutureEntry) × (get st.futures g ≡ Some x) × (x.semaphore ≡ s) × (is_under x.acquire k ≡ true) → ⊥
+      not_under k p =
+          let both : Some y ≡ Some p.0 = sym is ∙ p.1 in
+          let same : p.0 ≡ y = cc in
+          let under : is_under a k ≡ true = ap (λ a. is_under a k) (sym acquire) ∙ ap (λ (x : FutureEntry). is_under x.acquire k) (sym same) ∙ p.3 in
+          let no = none k in
+          cc
+
   moved_of_s : (g : ℕ) (y : FutureEntry) (a : Acquire) → y.acquire ≡ a → get st.futures g ≡ Some y → s ≡ y.semaphore
       → future_of st'.semaphores y ≡ cond (among left_names g) (staged t (future_of st.semaphores y)) (future_of st.semaphores y)
-  moved_of_s g y (acquires.New d) acquire is mine = unmoved g y is (λ k h. not_under k (has-parts s k (get st.futures g) h))
-      (ap (λ a. stage_of a (core_in (get st'.semaphores y.semaphore))) acquire ∙ sym (ap (λ a. stage_of a (core_in (get st.semaphores y.semaphore))) acquire))
-    where
-      not_under : (k : ℕ) → (x : FutureEntry) × (get st.futures g ≡ Some x) × (x.semaphore ≡ s) × (is_under x.acquire k ≡ true) → ⊥
-      not_under k p =
-          let both : Some y ≡ Some p.0 = sym is ∙ p.1 in
-          let same : p.0 ≡ y = cc in
-          let under : is_under (acquires.New d) k ≡ true = ap (λ a. is_under a k) (sym acquire)
-          ∙ ap (λ (x : FutureEntry). is_under x.acquire k) (sym same) ∙ p.3 in
-          cc
-  moved_of_s g y (acquires.Done d) acquire is mine = unmoved g y is (λ k h. not_under k (has-parts s k (get st.futures g) h))
-      (ap (λ a. stage_of a (core_in (get st'.semaphores y.semaphore))) acquire ∙ sym (ap (λ a. stage_of a (core_in (get st.semaphores y.semaphore))) acquire))
-    where
-      not_under : (k : ℕ) → (x : FutureEntry) × (get st.futures g ≡ Some x) × (x.semaphore ≡ s) × (is_under x.acquire k ≡ true) → ⊥
-      not_under k p =
-          let both : Some y ≡ Some p.0 = sym is ∙ p.1 in
-          let same : p.0 ≡ y = cc in
-          let under : is_under (acquires.Done d) k ≡ true = ap (λ a. is_under a k) (sym acquire)
-          ∙ ap (λ (x : FutureEntry). is_under x.acquire k) (sym same) ∙ p.3 in
-          cc
-  moved_of_s g y (acquires.Refused d) acquire is mine = unmoved g y is (λ k h. not_under k (has-parts s k (get st.futures g) h))
-      (ap (λ a. stage_of a (core_in (get st'.semaphores y.semaphore))) acquire ∙ sym (ap (λ a. stage_of a (core_in (get st.semaphores y.semaphore))) acquire))
-    where
-      not_under : (k : ℕ) → (x : FutureEntry) × (get st.futures g ≡ Some x) × (x.semaphore ≡ s) × (is_under x.acquire k ≡ true) → ⊥
-      not_under k p =
-          let both : Some y ≡ Some p.0 = sym is ∙ p.1 in
-          let same : p.0 ≡ y = cc in
-          let under : is_under (acquires.Refused d) k ≡ true = ap (λ a. is_under a k) (sym acquire)
-          ∙ ap (λ (x : FutureEntry). is_under x.acquire k) (sym same) ∙ p.3 in
-          cc
+  moved_of_s g y (acquires.New d) acquire is mine = without_number g y (acquires.New d) acquire is (λ k. refl) (λ x z. refl)
+  moved_of_s g y (acquires.Done d) acquire is mine = without_number g y (acquires.Done d) acquire is (λ k. refl) (λ x z. refl)
+  moved_of_s g y (acquires.Refused d) acquire is mine = without_number g y (acquires.Refused d) acquire is (λ k. refl) (λ x z. refl)
   moved_of_s g y (acquires.Queued d k) acquire is mine =
-      let now : get st'.semaphores y.semaphore ≡ Some e' = ap (get st'.semaphores) (sym mine) ∙ semaphore_there in
+      let now : get st'.semaphores y.semaphore ≡ Some e' = ap (get st'.semaphores) (sym mine) ∙ semaphore_there st st' s e' c.semaphores in
       let then : get st.semaphores y.semaphore ≡ Some e = ap (get st.semaphores) (sym mine) ∙ c.there in
       let new_stage : stage_of y.acquire (core_in (get st'.semaphores y.semaphore)) ≡ stage_of (acquires.Queued d k) e'.core =
       ap (λ d. stage_of y.acquire (core_in d)) now ∙ ap (λ a. stage_of a e'.core) acquire in
@@ -263,7 +173,7 @@ module _ (st st' : Store) (b s : ℕ) (t : FutureStage) (ws : List (cores.Waiter
       → future_of st'.semaphores y ≡ cond (among left_names g) (staged t (future_of st.semaphores y)) (future_of st.semaphores y)
   moved g y is true h = moved_of_s g y y.acquire refl is (eqb-true s y.semaphore h)
   moved g y is false h = unmoved g y is (λ k t. away k (has-parts s k (get st.futures g) t))
-      (ap (λ d. stage_of y.acquire (core_in d)) (semaphore_other y.semaphore (eqb-false s y.semaphore h)))
+      (ap (λ d. stage_of y.acquire (core_in d)) (semaphore_other st st' s e' c.semaphores y.semaphore (eqb-false s y.semaphore h)))
     where
       away : (k : ℕ) → (x : FutureEntry) × (get st.futures g ≡ Some x) × (x.semaphore ≡ s) × (is_under x.acquire k ≡ true) → ⊥
       away k p =

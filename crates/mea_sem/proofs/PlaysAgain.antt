@@ -15,14 +15,14 @@ use Rattle.mea_sem_core.specs.Core as cores
 use Rattle.mea_sem_core.specs.Calls.{Belongs, with_waker}
 use Rattle.mea_sem.specs.declared.entries.SemaphoreEntry.{SemaphoreEntry}
 use Rattle.mea_sem.specs.declared.entries.FutureEntry.{FutureEntry}
-use Rattle.mea_sem.specs.Store.{Store, is_under, has, name_of, who_of, queue_of, core_in, semaphore_of, stage_of, stage_under, future_of, hall_of, IsOpen, IsOwned, IsNumbered, IsLinked}
+use Rattle.mea_sem.specs.Store.{Store, is_under, has, name_of, who_of, queue_of, core_in, seen_as, semaphore_of, stage_of, stage_under, future_of, hall_of, IsOpen, IsOwned, IsNumbered, IsLinked}
 use Rattle.mea_sem.specs.Kept.{wakers_in, AreKeptSemaphores}
 use Rattle.mea_sem.proofs.Cores.{IsAt, all_at, all_by, waiting-with_waker, waker-with_waker, waker-with_waker_same, debts-with_waker, AreApart-with_waker, only-with_waker}
 use Rattle.mea_sem.proofs.Stages.{cut_idle}
 use Rattle.mea_sem.proofs.Names.{name-owner, queue_of-same}
 use Rattle.mea_sem.proofs.Changes.{Changes, linked_after, semaphores_after, futures_put}
 use Rattle.mea_sem.proofs.Weighs.{nothing, weighs_future}
-use Rattle.mea_sem.proofs.Keeping.{Plays, settled_as}
+use Rattle.mea_sem.proofs.Keeping.{Plays, settled_as, with_things}
 use Rattle.mea_sem.proofs.PlaysPermits.{as_it_was}
 
 abbrev first_or_none : Option (ℕ × ℕ) → ℕ
@@ -195,24 +195,14 @@ module _ (st st' : Store) (w sp next i s f v d m l : ℕ) (x : FutureEntry) (e :
         is w sp 0 0 nothing nothing there semaphores
         ((λ j. record {
           semaphores = (semaphores_after st st' next (i + 1) s f e waker_entry (Some x) (Some x) k.linked c
-              ∙ ap (λ q. insert this_hall.semaphores s
-              (record { free = e.core.free; queue = q; made = e.made; released = e.released; forgotten = e.forgotten; named = e.named; closed = e.core.closed })) queue
+              ∙ ap (λ q. insert this_hall.semaphores s (seen_as e q)) queue
               ∙ ap (λ z. z.semaphores) (as_it_was this_hall s (semaphore_of st.futures next s e) seen this_hall.permits)) j;
           futures = (futures_put st st' next (i + 1) s f e waker_entry (Some x) (Some x) k.linked c x refl ∙ ap (insert this_hall.futures f) future) j;
           permits = permits j;
         }))
         linked_now
         (weighs_future this_hall f again_future (future_of st.semaphores x) before mine refl)
-        (record {
-          account = (let o = old.account in let t = debts-with_waker e.core.queue m v in omega (arith, o, t));
-          held = omega (arith, held);
-          plain = refl;
-          things = refl;
-          few = (omega arith, omega arith);
-          quiet = old.quiet;
-          released = omega arith;
-          forgotten = omega arith;
-        })
+        (with_things (let o = old.account in let t = debts-with_waker e.core.queue m v in omega (arith, o, t)) (omega (arith, held)) refl refl old.quiet refl (omega arith))
         (ap (λ t. w + t) (sym (wakers_same e.core.queue))) k.room (let f = k.few in omega (arith, f))
       where
         demand_is : demand_of x.acquire ≡ d

@@ -18,7 +18,7 @@ use Rattle.mea_sem_core.specs.Core as cores
 use Rattle.mea_sem_core.specs.Calls.{Belongs}
 use Rattle.mea_sem.specs.declared.entries.SemaphoreEntry.{SemaphoreEntry}
 use Rattle.mea_sem.specs.declared.entries.FutureEntry.{FutureEntry}
-use Rattle.mea_sem.specs.Store.{Store, is_under, has, name_of, who_of, queue_of, core_in, semaphore_of, stage_of, stage_under, future_of, hall_of, IsOpen, IsNumbered}
+use Rattle.mea_sem.specs.Store.{Store, is_under, has, name_of, who_of, queue_of, core_in, seen_as, semaphore_of, stage_of, stage_under, future_of, hall_of, IsOpen, IsNumbered}
 use Rattle.mea_sem.specs.Kept.{wakers_in, AreKeptSemaphores}
 use Rattle.mea_sem.proofs.Cores.{waiting-push, waker-push, debts-push, AreApart-push}
 use Rattle.mea_sem.proofs.Names.{has-from, name-has}
@@ -26,7 +26,7 @@ use Rattle.mea_sem.proofs.Seen.{seen_at}
 use Rattle.mea_sem.proofs.Still.{no_future}
 use Rattle.mea_sem.proofs.Changes.{Changes, linked_after, queue_kept, semaphores_after, futures_put}
 use Rattle.mea_sem.proofs.Weighs.{thing, nothing, one, weighs_new_future, weighs_future}
-use Rattle.mea_sem.proofs.Keeping.{Plays, settled_as}
+use Rattle.mea_sem.proofs.Keeping.{Plays, settled_as, with_things}
 use Rattle.mea_sem.proofs.PlaysPermits.{as_it_was}
 
 abbrev first_or_none : Option (ℕ × ℕ) → ℕ
@@ -89,8 +89,7 @@ module _ (st st' : Store) (w sp next i s n : ℕ) (e : SemaphoreEntry) (k : AreK
       settled_as st st' w sp next i s event e e' k less low fits allowed (with_future h i y) is w sp 0 0 nothing (thing plain) there semaphores
       ((λ j. record {
         semaphores = (semaphores_after st st' next (i + 1) s i e e' None (Some x) k.linked c
-            ∙ ap (λ q. insert h.semaphores s
-            (record { free = e.core.free; queue = q; made = e.made; released = e.released; forgotten = e.forgotten; named = e.named; closed = e.core.closed }))
+            ∙ ap (λ q. insert h.semaphores s (seen_as e q))
             (queue_kept st st' next (i + 1) s i e e' None (Some x) k.linked c (λ m d l is. refl))
             ∙ ap (λ z. z.semaphores) (as_it_was h s (semaphore_of st.futures next s e) seen h.permits)) j;
         futures = futures_put st st' next (i + 1) s i e e' None (Some x) k.linked c x refl j;
@@ -160,16 +159,6 @@ module _ (st st' : Store) (w sp sp' next i s f v d m : ℕ) (x : FutureEntry) (e
           | inr waits ↦ absurd (let none : cores.waiting e.core.queue q ≡ None = ap (cores.waiting e.core.queue) same ∙ not_waiting in let some = waits.1 in cc)
         ]
 
-    alone_now : (g q : ℕ) (y z : FutureEntry) → Some queued_future ≡ Some y → (f ≡ g → ⊥) → get st.futures g ≡ Some z → z.semaphore ≡ s
-        → is_under y.acquire q ≡ true → is_under z.acquire q ≡ true → ⊥
-    alone_now g q y z is apart there_too yours under under_too =
-        let one : queued_future ≡ y = cc in
-        let same : m ≡ q = eqb-true m q (ap (λ (u : FutureEntry). is_under u.acquire q) one ∙ under) in
-        let home = k.linked.home g z there_too in
-        let both : Some e ≡ Some home.entry = sym there ∙ ap (get st.semaphores) (sym yours) ∙ home.there in
-        let core : home.entry ≡ e = cc in
-        fresh z.acquire (subst (λ (u : SemaphoreEntry). Belongs u.core z.acquire) core home.belongs) (ap (is_under z.acquire) same ∙ under_too)
-
     belongs_on : (b q : ℕ) → Belongs e.core (acquires.Queued b q) → Belongs queued_core (acquires.Queued b q)
     belongs_on b q (inr cut) = inr cut
     belongs_on b q (inl h) = elim h [
@@ -238,7 +227,13 @@ module _ (st st' : Store) (w sp sp' next i s f v d m : ℕ) (x : FutureEntry) (e
       grants = λ q b is. (never_under q, is);
       cut = λ q b is. (never_under q, is);
       cuts = λ q free free_now. refl;
-      alone = alone_now;
+      alone = λ g q y z is apart there_too yours under under_too.
+          let one : queued_future ≡ y = cc in
+          let same : m ≡ q = eqb-true m q (ap (λ (u : FutureEntry). is_under u.acquire q) one ∙ under) in
+          let home = k.linked.home g z there_too in
+          let both : Some e ≡ Some home.entry = sym there ∙ ap (get st.semaphores) (sym yours) ∙ home.there in
+          let core : home.entry ≡ e = cc in
+          fresh z.acquire (subst (λ (u : SemaphoreEntry). Belongs u.core z.acquire) core home.belongs) (ap (is_under z.acquire) same ∙ under_too);
       numbered = numbered_now;
     }
 
@@ -290,8 +285,7 @@ module _ (st st' : Store) (w sp sp' next i s f v d m : ℕ) (x : FutureEntry) (e
         settled_as st st' w sp next i s (events.Poll f v) e queued_entry k less low tt allowed queued_hall is (w + 1) sp' 0 0 nothing nothing there semaphores
         ((λ j. record {
           semaphores = (semaphores_after st st' next (i + 1) s f e queued_entry (Some x) (Some queued_future) k.linked c
-              ∙ ap (λ q. insert hall.semaphores s
-              (record { free = 0; queue = q; made = e.made; released = e.released; forgotten = e.forgotten; named = e.named; closed = e.core.closed })) queue) j;
+              ∙ ap (λ q. insert hall.semaphores s (seen_as queued_entry q)) queue) j;
           futures = (futures_put st st' next (i + 1) s f e queued_entry (Some x) (Some queued_future) k.linked c queued_future refl
               ∙ ap (insert hall.futures f) future) j;
           permits = permits j;
@@ -304,14 +298,5 @@ module _ (st st' : Store) (w sp sp' next i s f v d m : ℕ) (x : FutureEntry) (e
         }))
         linked
         (let l = weighs_future hall f y (future_of st.semaphores x) before mine refl in record { held = λ q. l.held q; things = λ chosen q. l.things chosen q })
-        (record {
-          account = (let o = old.account in let t = debts-push e.core.queue m d v (d - e.core.free) in omega (arith, o, t));
-          held = omega (arith, held);
-          plain = refl;
-          things = refl;
-          few = (omega arith, omega arith);
-          quiet = old.quiet;
-          released = omega arith;
-          forgotten = omega arith;
-        })
+        (with_things (let o = old.account in let t = debts-push e.core.queue m d v (d - e.core.free) in omega (arith, o, t)) (omega (arith, held)) refl refl old.quiet refl (omega arith))
         (let t = wakers_pushed e.core.queue (d - e.core.free) in omega (arith, t)) room (let f = k.few in omega (arith, f))

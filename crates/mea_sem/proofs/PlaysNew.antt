@@ -3,22 +3,22 @@ use Rattle.std.proofs.Common.{◌≡◌, ℕ, ◌+◌, ◌^◌, ◌<◌, ◌≤�
 use Rattle.std.specs.Option.{IsSome, option_map}
 use Rattle.std.specs.Ordering.{nat_cmp}
 use Rattle.std.specs.FinMap.{FinMap, get, insert, empty, get-empty}
-use Rattle.std.proofs.lemmas.Bool.{eqb-true, eqb-false}
+use Rattle.std.proofs.lemmas.Bool.{eqb-true}
 use Rattle.mea_base.specs.Totals.{total, weight}
 use Rattle.mea_base.proofs.NamedMaps.{same_named, get-seen}
 use Rattle.mea_base.proofs.Totals.{get_inserted, total-insert, total-zero}
-use Rattle.mea_base.proofs.Tests.{at_same, at_apart, on_false, on_first_false}
+use Rattle.mea_base.proofs.Tests.{on_false, on_first_false}
 use Rattle.mea_events.specs.declared.sem_event.SemEvent.TheVariants as events
 use Rattle.mea_sem_model.specs.Hall.{Hall, Future, Permit, made_with, held, plain_things, with_semaphore}
 use Rattle.mea_sem_model.specs.Valid.{IsValid, IsBelow, IsAccounted}
 use Rattle.mea_sem_model.proofs.Keeps.{keeps_below, keeps_account, below_later}
 use Rattle.mea_sem_model.proofs.StaysValid.{kept_valid}
 use Rattle.mea_sem_core.specs.Core as cores
-use Rattle.mea_sem_core.specs.Acquire.{demand_of}
 use Rattle.mea_sem.specs.declared.entries.SemaphoreEntry.{SemaphoreEntry}
 use Rattle.mea_sem.specs.declared.entries.FutureEntry.{FutureEntry}
-use Rattle.mea_sem.specs.Store.{Store, semaphore_of, stage_of, core_in, future_of, hall_of, IsOwned, IsNumbered, IsLinked}
+use Rattle.mea_sem.specs.Store.{Store, semaphore_of, stage_of, core_in, future_of, hall_of, IsOwned, IsNumbered, IsLinked, at_stage}
 use Rattle.mea_sem.specs.Kept.{things_by, things, wakers_in, IsKeptEntry, AreKeptSemaphores}
+use Rattle.mea_sem.proofs.Replaced.{semaphore_other, each_semaphore, future_back, owned_on}
 use Rattle.mea_sem.proofs.Renumbered.{hall_renumbered}
 use Rattle.mea_sem.proofs.Weighs.{if_plain, always}
 use Rattle.mea_sem.proofs.Keeping.{Plays}
@@ -72,62 +72,35 @@ module _ (st : Store) (w sp next i : ℕ) (k : AreKeptSemaphores st w sp next) (
   module _ (st' : Store) (n : ℕ) (small : n < 2 ^ 64)
       (semaphores : (q : ℕ) → get st'.semaphores q ≡ cond (i == q) (Some (fresh_entry n)) (get st.semaphores q)) (futures : st'.futures ≡ st.futures)
       (permits : st'.permits ≡ st.permits) where
-    semaphore_other : (q : ℕ) → (i ≡ q → ⊥) → get st'.semaphores q ≡ get st.semaphores q
-    semaphore_other q apart = semaphores q ∙ at_apart i q (Some (fresh_entry n)) (get st.semaphores q) apart
-
-    semaphore_here : (q : ℕ) (e : SemaphoreEntry) → i ≡ q → get st'.semaphores q ≡ Some e → fresh_entry n ≡ e
-    semaphore_here q e same is = let both : Some (fresh_entry n) ≡ Some e =
-        sym (at_same i q (Some (fresh_entry n)) (get st.semaphores q) same) ∙ sym (semaphores q) ∙ is in cc
-
     not_there : (q : ℕ) (e : SemaphoreEntry) → get st.semaphores q ≡ Some e → i ≡ q → ⊥
     not_there q e is same = absurd (let gone : get st.semaphores q ≡ None = ap (get st.semaphores) (sym same) ∙ no_semaphore in cc)
 
-    back : (f : ℕ) (x : FutureEntry) → get st'.futures f ≡ Some x → get st.futures f ≡ Some x
-    back f x is = ap (λ m. get m f) (sym futures) ∙ is
-
     linked_now : IsLinked st' (i + 1)
     linked_now = record {
-      home = λ f x is. (let h = k.linked.home f x (back f x is) in
+      home = λ f x is. (let h = k.linked.home f x (future_back st st' futures f x is) in
           record {
             entry = h.entry;
-            there = semaphore_other x.semaphore (not_there x.semaphore h.entry h.there)
-                ∙ h.there;
+            there = semaphore_other st st' i (fresh_entry n) semaphores x.semaphore (not_there x.semaphore h.entry h.there) ∙ h.there;
             belongs = h.belongs;
             open_still = h.open_still;
           });
-      owned = λ q e m d l is waits. owned_at q e m d l is waits (i == q) refl;
-      granted = λ q e m d is grants. placed_at (λ c. c.granted) refl k.linked.granted q e m d is grants (i == q) refl;
-      cut = λ q e m d is cut. placed_at (λ c. c.cut) refl k.linked.cut q e m d is cut (i == q) refl;
-      apart = λ f g m x y isx isy. k.linked.apart f g m x y (back f x isx) (back g y isy);
-      below = λ f x is. (let small = k.linked.below f x (back f x is) in omega arith);
-      numbered = λ q e is. numbered_at q e is (i == q) refl;
+      owned = λ q e m d l is waits. each_semaphore st st' i (fresh_entry n) semaphores (λ q e. cores.waiting e.core.queue m ≡ Some (d, l) → IsOwned st' q m d)
+          (λ none. absurd (cc)) (λ q e apart old waits. owned_on st st' futures q m d (k.linked.owned q e m d l old waits)) q e is waits;
+      granted = placed (λ c. c.granted) refl k.linked.granted;
+      cut = placed (λ c. c.cut) refl k.linked.cut;
+      apart = λ f g m x y isx isy. k.linked.apart f g m x y (future_back st st' futures f x isx) (future_back st st' futures g y isy);
+      below = λ f x is. (let small = k.linked.below f x (future_back st st' futures f x is) in omega arith);
+      numbered = each_semaphore st st' i (fresh_entry n) semaphores (λ q e. IsNumbered e.core)
+          (record { apart = tt; granted_apart = λ m waits. absurd (waits refl); cut_apart = λ m some. absurd (some (get-empty nat_cmp m)); closing = refl })
+          (λ q e apart old. k.linked.numbered q e old);
     }
       where
-        owned_at : (q : ℕ) (e : SemaphoreEntry) (m d l : ℕ) → get st'.semaphores q ≡ Some e → cores.waiting e.core.queue m ≡ Some (d, l) → (t : Bool)
-            → (i == q) ≡ t → IsOwned st' q m d
-        owned_at q e m d l is waits true h = absurd
-            (let same = semaphore_here q e (eqb-true i q h) is in
-            let none : cores.waiting (fresh_core n).queue m ≡ Some (d, l) = ap (λ (x : SemaphoreEntry). cores.waiting x.core.queue m) same ∙ waits in cc)
-        owned_at q e m d l is waits false h =
-            let o = k.linked.owned q e m d l (sym (semaphore_other q (eqb-false i q h)) ∙ is) waits in
-            record { name = o.name; entry = o.entry; there = ap (λ x. get x o.name) futures ∙ o.there; semaphore = o.semaphore; acquire = o.acquire }
-
-        placed_at : (pairs : cores.Core ℕ → FinMap nat_cmp ℕ) → pairs (fresh_core n) ≡ empty
+        placed : (pairs : cores.Core ℕ → FinMap nat_cmp ℕ) → pairs (fresh_core n) ≡ empty
             → ((q : ℕ) (x : SemaphoreEntry) (m d : ℕ) → get st.semaphores q ≡ Some x → get (pairs x.core) m ≡ Some d → IsOwned st q m d)
-            → (q : ℕ) (e : SemaphoreEntry) (m d : ℕ) → get st'.semaphores q ≡ Some e → get (pairs e.core) m ≡ Some d → (t : Bool)
-            → (i == q) ≡ t → IsOwned st' q m d
-        placed_at pairs nothing owned q e m d is placed true h = absurd
-            (let same = semaphore_here q e (eqb-true i q h) is in
-            let some : get (pairs (fresh_core n)) m ≡ Some d = ap (λ (x : SemaphoreEntry). get (pairs x.core) m) same ∙ placed in
-            let none : get (pairs (fresh_core n)) m ≡ None = ap (λ g. get g m) nothing ∙ get-empty {X = ℕ} nat_cmp m in cc)
-        placed_at pairs nothing owned q e m d is placed false h =
-            let o = owned q e m d (sym (semaphore_other q (eqb-false i q h)) ∙ is) placed in
-            record { name = o.name; entry = o.entry; there = ap (λ x. get x o.name) futures ∙ o.there; semaphore = o.semaphore; acquire = o.acquire }
-
-        numbered_at : (q : ℕ) (e : SemaphoreEntry) → get st'.semaphores q ≡ Some e → (t : Bool) → (i == q) ≡ t → IsNumbered e.core
-        numbered_at q e is true h = subst (λ (x : SemaphoreEntry). IsNumbered x.core) (semaphore_here q e (eqb-true i q h) is)
-            (record { apart = tt; granted_apart = λ m waits. absurd (waits refl); cut_apart = λ m some. absurd (some (get-empty nat_cmp m)); closing = refl })
-        numbered_at q e is false h = k.linked.numbered q e (sym (semaphore_other q (eqb-false i q h)) ∙ is)
+            → (q : ℕ) (e : SemaphoreEntry) (m d : ℕ) → get st'.semaphores q ≡ Some e → get (pairs e.core) m ≡ Some d → IsOwned st' q m d
+        placed pairs nothing owned q e m d is there = each_semaphore st st' i (fresh_entry n) semaphores (λ q e. get (pairs e.core) m ≡ Some d → IsOwned st' q m d)
+            (λ some. absurd (let none : get (pairs (fresh_core n)) m ≡ None = ap (λ g. get g m) nothing ∙ get-empty {X = ℕ} nat_cmp m in cc))
+            (λ q e apart old there. owned_on st st' futures q m d (owned q e m d old there)) q e is there
 
     -- the hall after it
     semaphores_now : (hall_of st' (i + 1)).semaphores ≡ insert (hall_of st (i + 1)).semaphores i (made_with n)
@@ -153,13 +126,7 @@ module _ (st : Store) (w sp next i : ℕ) (k : AreKeptSemaphores st w sp next) (
         at_each g None is = refl
         at_each g (Some x) is =
             let h = k.linked.home g x is in
-            λ j. Some (record {
-              semaphore = x.semaphore;
-              demand = demand_of x.acquire;
-              plain = x.plain;
-              forgets = x.forgets;
-              stage = stage_of x.acquire (core_in (semaphore_other x.semaphore (not_there x.semaphore h.entry h.there) j));
-            })
+            ap (λ d. Some (at_stage x (stage_of x.acquire (core_in d)))) (semaphore_other st st' i (fresh_entry n) semaphores x.semaphore (not_there x.semaphore h.entry h.there))
 
     hall_now : hall_of st' (i + 1) ≡ with_semaphore (hall_of st next) i (made_with n)
     hall_now =
@@ -169,13 +136,11 @@ module _ (st : Store) (w sp next i : ℕ) (k : AreKeptSemaphores st w sp next) (
     abbrev after : Hall
     after = with_semaphore (hall_of st next) i (made_with n)
 
-    each_now : cores.held_of (fresh_core n) ≡ 0 → (q : ℕ) (e : SemaphoreEntry) → get st'.semaphores q ≡ Some e → (t : Bool) → (i == q) ≡ t
-        → IsKeptEntry after (i + 1) q e
-    each_now held q e is true h =
-        let same = semaphore_here q e (eqb-true i q h) is in
-        let nothing = none_held in
+    each_now : cores.held_of (fresh_core n) ≡ 0 → (q : ℕ) (e : SemaphoreEntry) → get st'.semaphores q ≡ Some e → IsKeptEntry after (i + 1) q e
+    each_now held = each_semaphore st st' i (fresh_entry n) semaphores (λ q e. IsKeptEntry after (i + 1) q e)
+        (let nothing = none_held in
         let no_thing = none_plain in
-        subst (λ x. IsKeptEntry after (i + 1) q x) same (subst (λ x. IsKeptEntry after (i + 1) x (fresh_entry n)) (eqb-true i q h) (record {
+        record {
           account = omega arith;
           held = omega (arith, held, nothing);
           plain = omega (arith, no_thing);
@@ -184,9 +149,8 @@ module _ (st : Store) (w sp next i : ℕ) (k : AreKeptSemaphores st w sp next) (
           quiet = refl;
           released = omega arith;
           forgotten = omega arith;
-        }))
-    each_now held q e is false h =
-        let o = k.each q e (sym (semaphore_other q (eqb-false i q h)) ∙ is) in
+        })
+        (λ q e apart old. let o = k.each q e old in
         record {
           account = o.account;
           held = o.held;
@@ -196,7 +160,7 @@ module _ (st : Store) (w sp next i : ℕ) (k : AreKeptSemaphores st w sp next) (
           quiet = o.quiet;
           released = (let t = o.released in omega (arith, t));
           forgotten = (let t = o.forgotten in omega (arith, t));
-        }
+        })
 
     pub plays_new : cores.held_of (fresh_core n) ≡ 0 → Plays st st' next i (events.New n) w sp
     plays_new held = record {
@@ -209,8 +173,16 @@ module _ (st : Store) (w sp next i : ℕ) (k : AreKeptSemaphores st w sp next) (
         accounted = λ q. subst (λ h. IsAccounted h q) (sym hall_now)
             (keeps_account (hall_of st next) i (events.New n) k.valid (below_later (hall_of st next) next i less k.below) refl k.accounted q);
         linked = linked_now;
-        each = λ q e is. subst (λ h. IsKeptEntry h (i + 1) q e) (sym hall_now) (each_now held q e is (i == q) refl);
-        counted = counted_now;
+        each = λ q e is. subst (λ h. IsKeptEntry h (i + 1) q e) (sym hall_now) (each_now held q e is);
+        counted =
+            let sums = total-insert (λ q (x : SemaphoreEntry). wakers_in x.core.queue) st.semaphores i (fresh_entry n) in
+            let mine : weight (λ q (x : SemaphoreEntry). wakers_in x.core.queue) i (get st.semaphores i) ≡ 0 =
+            ap (weight (λ q (x : SemaphoreEntry). wakers_in x.core.queue) i) no_semaphore in
+            let now : total (λ q (x : SemaphoreEntry). wakers_in x.core.queue) st'.semaphores ≡ total
+            (λ q (x : SemaphoreEntry). wakers_in x.core.queue) (insert st.semaphores i (fresh_entry n)) =
+            ap (total (λ q (x : SemaphoreEntry). wakers_in x.core.queue)) inserted in
+            let before = k.counted in
+            omega (arith, sums, mine, now, before);
         room = k.room;
         few = (let f = k.few in omega (arith, f));
         low = omega arith;
@@ -219,14 +191,3 @@ module _ (st : Store) (w sp next i : ℕ) (k : AreKeptSemaphores st w sp next) (
       where
         inserted : st'.semaphores ≡ insert st.semaphores i (fresh_entry n)
         inserted = same_named _ _ (λ q. semaphores q ∙ sym (get_inserted st.semaphores i q (fresh_entry n)))
-
-        counted_now : w ≡ total (λ q (x : SemaphoreEntry). wakers_in x.core.queue) st'.semaphores
-        counted_now =
-            let sums = total-insert (λ q (x : SemaphoreEntry). wakers_in x.core.queue) st.semaphores i (fresh_entry n) in
-            let mine : weight (λ q (x : SemaphoreEntry). wakers_in x.core.queue) i (get st.semaphores i) ≡ 0 =
-            ap (weight (λ q (x : SemaphoreEntry). wakers_in x.core.queue) i) no_semaphore in
-            let now : total (λ q (x : SemaphoreEntry). wakers_in x.core.queue) st'.semaphores ≡ total
-            (λ q (x : SemaphoreEntry). wakers_in x.core.queue) (insert st.semaphores i (fresh_entry n)) =
-            ap (total (λ q (x : SemaphoreEntry). wakers_in x.core.queue)) inserted in
-            let before = k.counted in
-            omega (arith, sums, mine, now, before)

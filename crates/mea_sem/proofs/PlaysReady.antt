@@ -18,7 +18,7 @@ use Rattle.mea_sem.specs.Store.{Store, queue_of, hall_of}
 use Rattle.mea_sem.specs.Kept.{wakers_in, AreKeptSemaphores}
 use Rattle.mea_sem.proofs.Gone.{Leaves, linked_gone, hall_gone}
 use Rattle.mea_sem.proofs.Weighs.{Weighs, thing, nothing, if_plain, always, one, weighs_after, weighs_as, weighs_new_permit, weighs_lost_future}
-use Rattle.mea_sem.proofs.Keeping.{Plays, settled_as}
+use Rattle.mea_sem.proofs.Keeping.{Plays, settled_as, with_things}
 use Rattle.mea_sem.proofs.PlaysPermits.{no_permit}
 
 -- what is put twice is what was put last
@@ -168,14 +168,5 @@ module _ (st st' : Store) (w sp next i s f v : ℕ) (x : FutureEntry) (y : Futur
       ∙ (λ j. record { semaphores = insert h.semaphores s (sym m_is j); futures = remove h.futures f; permits = permits j }))
       (linked_gone st st' next i s f x e kept_entry k.linked less c)
       (weighs_as h permit_hall s (0 + 0) (0 + y.demand) _ _ 0 y.demand nothing nothing both (omega arith) (λ chosen. omega arith))
-      (record {
-        account = (let o = old.account in let d : cores.debts c1.queue ≡ cores.debts e.core.queue = ap cores.debts queue in omega (arith, o, d, live));
-        held = omega (arith, rises);
-        plain = refl;
-        things = refl;
-        few = (omega arith, omega arith);
-        quiet = quiet ∙ old.quiet;
-        released = omega arith;
-        forgotten = omega arith;
-      })
+      (with_things (let o = old.account in let d : cores.debts c1.queue ≡ cores.debts e.core.queue = ap cores.debts queue in omega (arith, o, d, live)) (omega (arith, rises)) refl refl (quiet ∙ old.quiet) refl (omega arith))
       (ap (λ q. w + wakers_in q) (sym queue)) k.room (let f = k.few in omega (arith, f))

@@ -1,24 +1,23 @@
 -- events that change a semaphore and nothing else
-use Rattle.std.proofs.Common.{◌≡◌, ℕ, ◌+◌, ◌-◌, ◌^◌, ◌<◌, ◌≤◌, ◌==◌, ◌&&◌, not, true, false, cond, List, ◌∷◌, min, nat_le, refl, ap, sym, ◌∙◌, arith, Some, None, if◌then◌else◌}
+use Rattle.std.proofs.Common.{◌≡◌, ℕ, ◌+◌, ◌-◌, ◌^◌, ◌<◌, ◌≤◌, ◌==◌, true, false, cond, List, ◌∷◌, min, refl, ap, sym, ◌∙◌, arith, Some, None}
 use Rattle.std.specs.FinMap.{get, insert}
-use Rattle.std.proofs.lemmas.Bool.{le-leb}
-use Rattle.mea_family.specs.declared.answer.Answer.TheVariants as answers
 use Rattle.mea_events.specs.declared.sem_event.SemEvent.{SemEvent}
 use Rattle.mea_events.specs.declared.sem_event.SemEvent.TheVariants as events
-use Rattle.mea_sem_model.specs.Hall.{Hall, Debt, semaphore_at, with_semaphore, free}
+use Rattle.mea_sem_model.specs.Hall.{Hall, Debt, semaphore_at, with_semaphore}
 use Rattle.mea_sem_model.specs.Cause.{cause_of}
 use Rattle.mea_sem_model.specs.Valid.{Fits}
-use Rattle.mea_sem_model.specs.Step.{step, quietly, forgetting, forgetting_exactly, with_debt, offers, try_and_forget}
+use Rattle.mea_sem_model.specs.Step.{step, forgetting, forgetting_exactly, with_debt}
 use Rattle.mea_sem_core.specs.Core as cores
 use Rattle.mea_sem_core.specs.Calls as calls
 use Rattle.mea_sem.specs.declared.entries.SemaphoreEntry.{SemaphoreEntry}
-use Rattle.mea_sem.specs.Store.{Store, queue_of, semaphore_of, hall_of}
+use Rattle.mea_sem.specs.Store.{Store, queue_of, hall_of}
+use Rattle.mea_sem.specs.Actions.{with_forgotten}
 use Rattle.mea_sem.specs.Kept.{wakers_in, AreKeptSemaphores}
 use Rattle.mea_sem.proofs.Seen.{seen_at}
 use Rattle.mea_sem.proofs.Renumbered.{hall_renumbered, kept_renumbered}
 use Rattle.mea_sem.proofs.Still.{IsStill, still_queue, linked_still, queue_still, hall_still}
 use Rattle.mea_sem.proofs.Weighs.{nothing, weighs_semaphore}
-use Rattle.mea_sem.proofs.Keeping.{Plays, settled, settled_as}
+use Rattle.mea_sem.proofs.Keeping.{Plays, settled, settled_as, with_things}
 use Rattle.mea_sem.proofs.Cores.{waiting-debt, waker-debt, AreApart-debt, only-debt, debts-debt}
 
 -- s alone is changed, and has e' now
@@ -28,73 +27,25 @@ pub record Puts (st st' : Store) (s : ℕ) (e e' : SemaphoreEntry) : Type 0 wher
   pub futures : st'.futures ≡ st.futures
 
 module _ (st st' : Store) (w sp next i s n : ℕ) (e : SemaphoreEntry) (k : AreKeptSemaphores st w sp next) (less : next ≤ i) (low : i < 2 ^ 64) (small : n < 2 ^ 64) where
-  abbrev forgot_entry : SemaphoreEntry
-  forgot_entry = record e { core = calls.forgetting e.core n; forgotten = e.forgotten + min n e.core.free }
-
-  pub plays_forget : cause_of (hall_of st next) (events.Forget s n) ≡ None → Puts st st' s e forgot_entry → st'.permits ≡ st.permits
-      → cores.held_of (calls.forgetting e.core n) ≡ cores.held_of e.core → min n e.core.free ≤ e.core.live
-      → Plays st st' next i (events.Forget s n) w sp
-  plays_forget allowed c permits held within =
-      let still : IsStill e forgot_entry = still_queue e forgot_entry refl refl refl refl in
+  -- n permits are forgotten, as far as they are free
+  pub plays_forget : (event : SemEvent) → Fits event → cause_of (hall_of st next) event ≡ None
+      → (step (hall_of st next) i event).hall ≡ with_semaphore (hall_of st next) s (forgetting (semaphore_at (hall_of st next) s) n)
+      → Puts st st' s e (with_forgotten e n) → st'.permits ≡ st.permits → cores.held_of (calls.forgetting e.core n) ≡ cores.held_of e.core
+      → min n e.core.free ≤ e.core.live → Plays st st' next i event w sp
+  plays_forget event fits allowed is c permits held within =
+      let still : IsStill e (with_forgotten e n) = still_queue e (with_forgotten e n) refl refl refl refl in
       let old = k.each s e c.there in
-      settled st st' w sp next i s (events.Forget s n) e forgot_entry k less low tt allowed w sp 0 0 nothing nothing c.there c.semaphores
-      (hall_still st st' next i s e forgot_entry k.linked less c.there c.semaphores c.futures still (queue_of st.futures next s e.core.queue)
-      (queue_still st st' next i s e forgot_entry k.linked less c.there c.semaphores c.futures still)
+      settled_as st st' w sp next i s event e (with_forgotten e n) k less low fits allowed _ is w sp 0 0 nothing nothing c.there c.semaphores
+      (hall_still st st' next i s e (with_forgotten e n) k.linked less c.there c.semaphores c.futures still (queue_of st.futures next s e.core.queue)
+      (queue_still st st' next i s e (with_forgotten e n) k.linked less c.there c.semaphores c.futures still)
       ∙ (λ j. record {
         semaphores = insert (hall_of st next).semaphores s (forgetting (sym (seen_at st next s e k.linked c.there) j) n);
         futures = (hall_of st next).futures;
         permits = permits j;
       }))
-      (linked_still st st' next i s e forgot_entry k.linked less c.there c.semaphores c.futures still)
+      (linked_still st st' next i s e (with_forgotten e n) k.linked less c.there c.semaphores c.futures still)
       (weighs_semaphore (hall_of st next) s s (forgetting (semaphore_at (hall_of st next) s) n))
-      (record {
-        account = (let o = old.account in omega (arith, o, within));
-        held = omega (arith, held);
-        plain = refl;
-        things = refl;
-        few = (omega arith, omega arith);
-        quiet = old.quiet;
-        released = omega arith;
-        forgotten = omega arith;
-      })
-      refl k.room (let f = k.few in omega (arith, f))
-
-  -- n free permits are forgotten at once
-  pub plays_tried : (event : SemEvent) → Fits event → cause_of (hall_of st next) event ≡ None
-      → (step (hall_of st next) i event).hall ≡ (try_and_forget (hall_of st next) s n).hall
-      → e.core.closed ≡ false → n ≤ e.core.free → Puts st st' s e forgot_entry → st'.permits ≡ st.permits
-      → cores.held_of (calls.forgetting e.core n) ≡ cores.held_of e.core → min n e.core.free ≤ e.core.live
-      → Plays st st' next i event w sp
-  plays_tried event fits allowed is open_still enough c permits held within =
-      let still : IsStill e forgot_entry = still_queue e forgot_entry refl refl refl refl in
-      let old = k.each s e c.there in
-      let h : Hall = hall_of st next in
-      let seen : semaphore_at h s ≡ semaphore_of st.futures next s e = seen_at st next s e k.linked c.there in
-      let all : min n e.core.free ≡ n = omega arith in
-      let fits_in : offers h s n ≡ true = ap (λ r. not r.closed && nat_le n r.free) seen ∙ (λ j. not (open_still j) && le-leb n e.core.free enough j) in
-      let g : Hall = with_semaphore h s (record (semaphore_at h s) { free = free h s - n; forgotten = (semaphore_at h s).forgotten + n }) in
-      let chosen : (step h i event).hall ≡ g = is ∙ ap (λ b. (if b then quietly g answers.Yes else quietly h answers.No).hall) fits_in in
-      settled_as st st' w sp next i s event e forgot_entry k less low fits allowed g chosen w sp 0 0 nothing nothing c.there c.semaphores
-      (hall_still st st' next i s e forgot_entry k.linked less c.there c.semaphores c.futures still (queue_of st.futures next s e.core.queue)
-      (queue_still st st' next i s e forgot_entry k.linked less c.there c.semaphores c.futures still)
-      ∙ (λ j. record {
-        semaphores = insert h.semaphores s
-            (record (sym seen j) { free = (sym seen j).free - all j; forgotten = (sym seen j).forgotten + all j });
-        futures = h.futures;
-        permits = permits j;
-      }))
-      (linked_still st st' next i s e forgot_entry k.linked less c.there c.semaphores c.futures still)
-      (weighs_semaphore h s s (record (semaphore_at h s) { free = free h s - n; forgotten = (semaphore_at h s).forgotten + n }))
-      (record {
-        account = (let o = old.account in omega (arith, o, within));
-        held = omega (arith, held);
-        plain = refl;
-        things = refl;
-        few = (omega arith, omega arith);
-        quiet = old.quiet;
-        released = omega arith;
-        forgotten = omega arith;
-      })
+      (with_things (let o = old.account in omega (arith, o, within)) (omega (arith, held)) refl refl old.quiet refl (omega arith))
       refl k.room (let f = k.few in omega (arith, f))
 
   abbrev exactly_entry : SemaphoreEntry
@@ -137,16 +88,7 @@ module _ (st st' : Store) (w sp next i s n : ℕ) (e : SemaphoreEntry) (k : AreK
       }))
       (linked_still st st' next i s e exactly_entry k.linked less c.there c.semaphores c.futures still)
       (weighs_semaphore h s s (forgetting_exactly (semaphore_at h s) n))
-      (record {
-        account = (let o = old.account in let d = debts-debt e.core.queue (n - min n e.core.free) in omega (arith, o, within, d));
-        held = omega (arith, held);
-        plain = refl;
-        things = refl;
-        few = (omega arith, omega arith);
-        quiet = old.quiet;
-        released = omega arith;
-        forgotten = omega arith;
-      })
+      (with_things (let o = old.account in let d = debts-debt e.core.queue (n - min n e.core.free) in omega (arith, o, within, d)) (omega (arith, held)) refl refl old.quiet refl (omega arith))
       (ap (λ m. w + m) (sym (wakers-debt (n - min n e.core.free) e.core.queue))) k.room (let f = k.few in omega (arith, f))
 
   abbrev unnamed_entry : SemaphoreEntry
@@ -168,7 +110,7 @@ module _ (st st' : Store) (w sp next i s n : ℕ) (e : SemaphoreEntry) (k : AreK
       }))
       (linked_still st st' next i s e unnamed_entry k.linked less c.there c.semaphores c.futures still)
       (weighs_semaphore h s s (record (semaphore_at h s) { named = false }))
-      (record { account = old.account; held = refl; plain = refl; things = refl; few = (omega arith, omega arith); quiet = old.quiet; released = omega arith; forgotten = omega arith })
+      (with_things old.account refl refl refl old.quiet refl (omega arith))
       refl k.room (let f = k.few in omega (arith, f))
 
 -- an event whose outcome leaves the hall as it is

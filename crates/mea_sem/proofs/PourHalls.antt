@@ -78,18 +78,6 @@ module _ (st st' : Store) (b s n : ℕ) (e e' : SemaphoreEntry) (linked : IsLink
       ap (λ g. get g k) c.granted ∙ demands-other e.core.granted (granted_in e.core.queue n) k still
       ∙ old.granted_apart k (λ t. absurd (let no : None ≡ Some (p.0, before.0) = sym t ∙ before.1 in cc))
 
-  numbered_now : IsNumbered e'.core
-  numbered_now = record {
-    apart = subst cores.AreApart (sym c.queue) (AreApart-waiting_after e.core.queue n old.apart);
-    granted_apart = λ k waits. none_granted k (λ t. waits (ap (λ q. cores.waiting q k) c.queue ∙ t)) (cores.waiting (waiting_after e.core.queue n) k) refl;
-    cut_apart = λ k some.
-        let before = old.cut_apart k (λ none. some (ap (λ g. get g k) c.cut ∙ none)) in
-        (ap (λ q. cores.waiting q k) c.queue ∙ ((split_at k).none before.0).0, unpaid k before.0 ∙ before.1);
-    closing = keeps_closed e.core.closed e'.core.closed e.core.queue e'.core.queue e.core.cut e'.core.cut c.closed
-        (λ h. subst cores.HasOnlyDebts (sym c.queue) (only-waiting_after e.core.queue n h))
-        (λ h. c.cut ∙ h) old.closing;
-  }
-
   -- who waits is not cut
   uncut : (k d l : ℕ) → cores.waiting e.core.queue k ≡ Some (d, l) → (o : Option ℕ) → get e.core.cut k ≡ o → stage_under None o ≡ Granted
   uncut k d l is None h = refl
@@ -112,7 +100,16 @@ module _ (st st' : Store) (b s n : ℕ) (e e' : SemaphoreEntry) (linked : IsLink
     cuts = λ k a. ap (λ g. get g k) c.cut;
     granted_from = granted_from;
     cut_from = λ k d is. inl (ap (λ g. get g k) (sym c.cut) ∙ is);
-    numbered = numbered_now;
+    numbered = record {
+      apart = subst cores.AreApart (sym c.queue) (AreApart-waiting_after e.core.queue n old.apart);
+      granted_apart = λ k waits. none_granted k (λ t. waits (ap (λ q. cores.waiting q k) c.queue ∙ t)) (cores.waiting (waiting_after e.core.queue n) k) refl;
+      cut_apart = λ k some.
+          let before = old.cut_apart k (λ none. some (ap (λ g. get g k) c.cut ∙ none)) in
+          (ap (λ q. cores.waiting q k) c.queue ∙ ((split_at k).none before.0).0, unpaid k before.0 ∙ before.1);
+      closing = keeps_closed e.core.closed e'.core.closed e.core.queue e'.core.queue e.core.cut e'.core.cut c.closed
+          (λ h. subst cores.HasOnlyDebts (sym c.queue) (only-waiting_after e.core.queue n h))
+          (λ h. c.cut ∙ h) old.closing;
+    };
   }
     where
       not_waiting_now : (k d : ℕ) → get e.core.granted k ≡ Some d → cores.waiting e.core.queue k ≡ None

@@ -1,8 +1,8 @@
 -- what a look-up among the kept entries says of the hall
-use Rattle.std.proofs.Common.{Result, Ok, Err, ◌⊎◌, inl, inr, ◌≡◌, ◌≢◌, ℕ, true, false, cond, if◌then◌else◌, refl, ap, sym, subst, ◌∙◌, Option, Some, None, is_some}
+use Rattle.std.proofs.Common.{Result, Ok, Err, inl, inr, ◌≡◌, ◌≢◌, ℕ, true, false, cond, if◌then◌else◌, refl, ap, sym, subst, ◌∙◌, Option, Some, None, is_some}
 use Rattle.std.specs.Option.{option_map}
 use Rattle.std.specs.FinMap.{get}
-use Rattle.std.specs.Result.{IfErr, OnOk, IsErrAnd}
+use Rattle.std.specs.Result.{IfErr, IsErrAnd}
 use Rattle.mea_base.specs.Named.{at}
 use Rattle.mea_family.specs.declared.stop.Stop.{Stop}
 use Rattle.mea_family.specs.declared.stop.Stop.TheVariants as stops
@@ -104,26 +104,9 @@ pub refuses_unknown : (c : Option Stop) (stop : Stop) → c ≡ Some stops.Unkno
 refuses_unknown c stop is same = (is ∙ ap (λ t. Some t) (sym same), λ h. absurd (cc (same, h)))
 
 -- a refusal that goes on by ? is the same
-pub refuses : {A : Type 0} (r : Result A Stop) (e : Stop) (c : Option Stop) → IsErrAnd r (λ f. f ≡ e) → (c ≡ Some e) × (e ≢ stops.NoMemory)
-    → IfErr r (λ stop. (c ≡ Some stop) × (stop ≢ stops.NoMemory))
-refuses (Ok a) e c is refused = absurd is
-refuses (Err f) e c is refused = subst (λ t. (c ≡ Some t) × (t ≢ stops.NoMemory)) (sym is) refused
-
--- the same where want of memory may be told
-pub refuses_first : {A : Type 0} (r : Result A Stop) (e : Stop) (c : Option Stop) → IsErrAnd r (λ f. f ≡ e) → c ≡ Some e
-    → IfErr r (λ stop. (c ≡ Some stop) ⊎ ((c ≡ None) × (stop ≡ stops.NoMemory)))
-refuses_first (Ok a) e c is refused = absurd is
-refuses_first (Err f) e c is refused = inl (refused ∙ ap (λ t. Some t) (sym is))
-
-pub lacks_memory : {A : Type 0} (r : Result A Stop) (c : Option Stop) → IsErrAnd r (λ f. f ≡ stops.NoMemory) → c ≡ None
-    → IfErr r (λ stop. (c ≡ Some stop) ⊎ ((c ≡ None) × (stop ≡ stops.NoMemory)))
-lacks_memory (Ok a) c is allowed = absurd is
-lacks_memory (Err f) c is allowed = inr (allowed, is)
-
-pub lacks_after : {A : Type 0} (r : Result A Stop) (c : Option Stop) → IfErr r (λ stop. stop ≡ stops.NoMemory) → c ≡ None
-    → IfErr r (λ stop. (c ≡ Some stop) ⊎ ((c ≡ None) × (stop ≡ stops.NoMemory)))
-lacks_after (Ok a) c lacks allowed = tt
-lacks_after (Err f) c lacks allowed = inr (allowed, lacks)
+pub passed : {A : Type 0} (r : Result A Stop) (e : Stop) (P : Stop → Type 0) → IsErrAnd r (λ f. f ≡ e) → P e → IfErr r P
+passed (Ok a) e P is p = absurd is
+passed (Err f) e P is p = subst P (sym is) p
 
 -- what the entry of a semaphore says of it
 module _ (a : Inside) {v : Play} (seen : seen_in a ≡ v) (k : IsKeptIn a) (s : ℕ) (e : SemaphoreEntry) (there : at (semaphores_in a) s ≡ Some e) where

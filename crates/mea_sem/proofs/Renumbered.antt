@@ -8,7 +8,7 @@ use Rattle.mea_sem_model.specs.Valid.{IsValid, IsBelow, IsAccounted}
 use Rattle.mea_sem_model.proofs.Keeps.{below_later}
 use Rattle.mea_sem_core.specs.Core as cores
 use Rattle.mea_sem.specs.declared.entries.SemaphoreEntry.{SemaphoreEntry}
-use Rattle.mea_sem.specs.Store.{Store, who_of, queue_of, semaphore_of, hall_of, IsLinked}
+use Rattle.mea_sem.specs.Store.{Store, who_of, queue_of, seen_as, semaphore_of, hall_of, IsLinked}
 use Rattle.mea_sem.specs.Kept.{IsKeptEntry, AreKeptSemaphores}
 use Rattle.mea_sem.proofs.Cores.{IsAt, all_at, all_by}
 use Rattle.mea_sem.proofs.Names.{name-owner, queue_of-same}
@@ -44,16 +44,7 @@ module _ (st : Store) (b b' : ℕ) (linked : IsLinked st b) (more : b ≤ b') wh
       at_each : (q : ℕ) (o : Option SemaphoreEntry) → get st.semaphores q ≡ o
           → option_map (semaphore_of st.futures b' q) o ≡ option_map (semaphore_of st.futures b q) o
       at_each q None is = refl
-      at_each q (Some d) is = λ i. Some
-          (record {
-            free = d.core.free;
-            queue = queue_same q d is i;
-            made = d.made;
-            released = d.released;
-            forgotten = d.forgotten;
-            named = d.named;
-            closed = d.core.closed;
-          })
+      at_each q (Some d) is = λ i. Some (seen_as d (queue_same q d is i))
 
   pub hall_renumbered : hall_of st b' ≡ hall_of st b
   hall_renumbered = λ i. record { semaphores = semaphores_same i; futures = (hall_of st b).futures; permits = st.permits }

@@ -24,7 +24,7 @@ use Rattle.mea_sem.specs.Entries.{IsReady, finished}
 use Rattle.mea_sem.specs.declared.entries.SemaphoreEntry.{SemaphoreEntry}
 use Rattle.mea_sem.specs.declared.entries.FutureEntry.{FutureEntry}
 use Rattle.mea_sem.specs.declared.entries.PermitEntry.{PermitEntry}
-use Rattle.mea_sem.specs.Store.{Store, permit_of, store_of, queue_of, semaphore_of, stage_of, IsHome, IsOpen}
+use Rattle.mea_sem.specs.Store.{Store, permit_of, store_of, queue_of, semaphore_of, stage_of, IsHome, IsOpen, at_stage}
 use Rattle.mea_sem.proofs.Inside.{Inside}
 use Rattle.mea_sem.specs.Play.{Play}
 use Rattle.mea_sem.proofs.Stages.{stage_granted, stage_cut, stage_waits}
@@ -60,10 +60,6 @@ semaphore_living a f {x} k is none = elim (missing a x.semaphore none) [
 -- the permit that a future becomes
 abbrev pub permit_from : FutureEntry → PermitEntry
 permit_from x = record { semaphore = x.semaphore; size = demand_of x.acquire; plain = x.plain }
-
--- a future as the hall has it, at a stage
-abbrev pub at_stage : FutureEntry → FutureStage → Future
-at_stage x z = record { semaphore = x.semaphore; demand = demand_of x.acquire; plain = x.plain; forgets = x.forgets; stage = z }
 
 module _ {a : Inside} {v : Play} {i f : ℕ} {x : FutureEntry} {e : SemaphoreEntry} (m : MeetsFuture a v i f x e) where
   pub future_there : get (store_in a).futures f ≡ Some x

@@ -30,7 +30,7 @@ use Rattle.mea_sem.specs.Kept.{wakers_in, AreKeptSemaphores}
 use Rattle.mea_sem.specs.Play.{Play}
 use Rattle.mea_sem.proofs.Refusals.{known_named, unknown_unnamed, refuses_unknown, live_as, plain_as}
 use Rattle.mea_sem.proofs.Seen.{seen_at}
-use Rattle.mea_sem.proofs.PlaysSemaphores.{Puts, plays_nothing, plays_forget, plays_tried, plays_forgetx, plays_endsem}
+use Rattle.mea_sem.proofs.PlaysSemaphores.{Puts, plays_nothing, plays_forget, plays_forgetx, plays_endsem}
 use Rattle.mea_sem.proofs.PlaysNew.{fresh_core, fresh_entry, plays_new}
 use Rattle.mea_sem.proofs.PlaysPours.{wakers_poured}
 use Rattle.mea_sem.proofs.PlaysEnds.{plays_release}
@@ -108,13 +108,13 @@ module _ {a : Inside} {v : Play} {i s : ℕ} {e : SemaphoreEntry} (m : MeetsSema
       ∙ ap (λ b. cond b None (Some stops.Overflow)) (room_seen n ∙ le-leb (suc (e.core.live + n)) (2 ^ 64) fits)
 
   pub release_refused : (n : ℕ) (stop : Stop) → ((e.named ≡ false) × (stop ≡ stops.Unknown))
-      ⊎ ((e.named ≡ true) × (2 ^ 64 ≤ e.core.live + n) × (stop ≡ stops.Overflow))
+      ⊎ ((e.named ≡ true) × ((2 ^ 64 ≤ e.core.live + n) × (stop ≡ stops.Overflow)))
       → (cause_of v.hall (events.Release s n) ≡ Some stop) × (stop ≢ stops.NoMemory)
   release_refused n stop (inl p) = refuses_unknown _ stop (once_unnamed _ p.0) p.1
   release_refused n stop (inr p) = (
-    while_named p.0 ∙ ap (λ b. cond b None (Some stops.Overflow)) (room_seen n ∙ lt-leb (suc (e.core.live + n)) (2 ^ 64) (let most = p.1 in omega arith))
-        ∙ ap (λ t. Some t) (sym p.2),
-    λ h. absurd (cc (p.2, h)),
+    while_named p.0 ∙ ap (λ b. cond b None (Some stops.Overflow)) (room_seen n ∙ lt-leb (suc (e.core.live + n)) (2 ^ 64) (let most = p.1.0 in omega arith))
+        ∙ ap (λ t. Some t) (sym p.1.1),
+    λ h. absurd (cc (p.1.1, h)),
   )
 
   -- the end of a name is refused where that is ended, and where a plain thing is there
@@ -124,12 +124,12 @@ module _ {a : Inside} {v : Play} {i s : ℕ} {e : SemaphoreEntry} (m : MeetsSema
   pub endsem_known : e.named ≡ true → e.plain ≡ 0 → cause_of v.hall (events.Endsem s) ≡ None
   endsem_known named none = while_named named ∙ ap (λ b. cond b (Some stops.Borrowed) None) (plain_seen ∙ ap (nat_lt 0) none)
 
-  pub endsem_refused : (stop : Stop) → ((e.named ≡ false) × (stop ≡ stops.Unknown)) ⊎ ((e.named ≡ true) × (0 < e.plain) × (stop ≡ stops.Borrowed))
+  pub endsem_refused : (stop : Stop) → ((e.named ≡ false) × (stop ≡ stops.Unknown)) ⊎ ((e.named ≡ true) × ((0 < e.plain) × (stop ≡ stops.Borrowed)))
       → (cause_of v.hall (events.Endsem s) ≡ Some stop) × (stop ≢ stops.NoMemory)
   endsem_refused stop (inl p) = refuses_unknown _ stop (once_unnamed _ p.0) p.1
   endsem_refused stop (inr p) = (
-    while_named p.0 ∙ ap (λ b. cond b (Some stops.Borrowed) None) (plain_seen ∙ le-leb 1 e.plain p.1) ∙ ap (λ t. Some t) (sym p.2),
-    λ h. absurd (cc (p.2, h)),
+    while_named p.0 ∙ ap (λ b. cond b (Some stops.Borrowed) None) (plain_seen ∙ le-leb 1 e.plain p.1.0) ∙ ap (λ t. Some t) (sym p.1.1),
+    λ h. absurd (cc (p.1.1, h)),
   )
 
   pub is_accounted : e.core.live + e.forgotten ≡ e.made + e.released + cores.debts e.core.queue
@@ -269,7 +269,7 @@ module _ {a : Inside} {v : Play} {i s : ℕ} {e : SemaphoreEntry} (m : MeetsSema
         → Done v i (step v.hall i (events.Forget s n)) (answers.Forgot r) st' (registered_in a) a.list.registered a.list.wakers
     done_forget n r small allowed is held taken within_live =
         done_quietly m.meets (events.Forget s n) (answers.Forgot r)
-        (plays_forget (store_in a) st' (registered_in a) a.list.registered a.kept.next i s n e k less low small (cause (events.Forget s n) allowed) (puts _ is)
+        (plays_forget (store_in a) st' (registered_in a) a.list.registered a.kept.next i s n e k less low small (events.Forget s n) tt (cause (events.Forget s n) allowed) refl (puts _ is)
         refl (held_by _ is held) within_live)
         refl (ap (λ t. answers.Forgot t) (taken ∙ ap (min n) (sym free_seen)))
 
@@ -289,10 +289,13 @@ module _ {a : Inside} {v : Play} {i s : ℕ} {e : SemaphoreEntry} (m : MeetsSema
     done_tried n small allowed open_still enough is held within =
         let h : Hall = hall_in a in
         let fits_in : offers h s n ≡ true = offered n open_still enough in
+        let all : n ≡ min n (free h s) = omega (arith, enough, free_seen) in
         let outcome : try_and_forget h s n ≡ taken_off h s n = ap (λ b. cond b (taken_off h s n) (quietly h answers.No)) fits_in in
         done_quietly m.meets (events.Tryf s n) answers.Yes
-        (plays_tried (store_in a) st' (registered_in a) a.list.registered a.kept.next i s n e k less low small (events.Tryf s n) tt
-        (cause (events.Tryf s n) allowed) refl open_still enough (puts _ is) refl (held_by _ is held) within)
+        (plays_forget (store_in a) st' (registered_in a) a.list.registered a.kept.next i s n e k less low small (events.Tryf s n) tt
+        (cause (events.Tryf s n) allowed) (ap (λ (o : Outcome). o.hall) outcome
+        ∙ (λ j. with_semaphore h s (record (semaphore_at h s) { free = free h s - all j; forgotten = (semaphore_at h s).forgotten + all j })))
+        (puts _ is) refl (held_by _ is held) within)
         (ap (λ (o : Outcome). o.wakes) outcome) (sym (ap (λ (o : Outcome). o.reply) outcome))
 
     pub done_endsem : cause_of v.hall (events.Endsem s) ≡ None → x ≡ record e { named = false }

@@ -19,7 +19,7 @@ use Rattle.mea_sem_core.specs.Calls.{Belongs, Queues, with_waker, without_acquir
 use Rattle.mea_sem.specs.declared.entries.SemaphoreEntry.{SemaphoreEntry}
 use Rattle.mea_sem.specs.declared.entries.FutureEntry.{FutureEntry}
 use Rattle.mea_sem.specs.Entries.{Waits, WaitsOn, Ends}
-use Rattle.mea_sem.specs.Store.{Store, store_of, hall_of, stage_of, IsOpen}
+use Rattle.mea_sem.specs.Store.{Store, store_of, hall_of, stage_of, IsOpen, at_stage}
 use Rattle.mea_sem.specs.Kept.{AreKeptSemaphores}
 use Rattle.mea_sem.proofs.Inside.{Inside}
 use Rattle.mea_sem.specs.Play.{Play}
@@ -33,7 +33,7 @@ use Rattle.mea_sem.proofs.PlaysEnds.{plays_gone_new, plays_gone_cut, PlaysWith, 
 use Rattle.mea_sem.proofs.Meets.{registered_in, semaphores_in, store_in, hall_in, IsKeptIn, MeetsFuture, Done, its_semaphore, later, to_kept, done, done_quietly}
 use Rattle.mea_sem.proofs.Standing.{Semaphores, Futures, Permits, semaphores_of, kept_same}
 use Rattle.mea_sem.proofs.StandingSemaphores.{wakers_registered, kept_room}
-use Rattle.mea_sem.proofs.StandingFutures.{future_there, home_there, its_belongs, at_stage, seen_as, granted_stage, pending_new, waiting_as, pending_again, paid_part, granted_live, cut_stage, may_poll_kept}
+use Rattle.mea_sem.proofs.StandingFutures.{future_there, home_there, its_belongs, seen_as, granted_stage, pending_new, waiting_as, pending_again, paid_part, granted_live, cut_stage, may_poll_kept}
 
 module _ {a : Inside} {v : Play} {i f : ℕ} {x : FutureEntry} {e : SemaphoreEntry} (m : MeetsFuture a v i f x e) where
   -- ---- a first poll that waits
@@ -46,10 +46,8 @@ module _ {a : Inside} {v : Play} {i f : ℕ} {x : FutureEntry} {e : SemaphoreEnt
       let st : Store = store_in a in
       let st' : Store = store_of ss' fs' a.kept.permits.entries in
       let chosen = pending_new m w d new lacks in
-      let hall : (step (hall_in a) i (events.Poll f w)).hall ≡ queueing (hall_in a) f w
-      (record { semaphore = x.semaphore; demand = d; plain = x.plain; forgets = x.forgets; stage = New }) =
-      ap (λ o. o.hall) chosen ∙ ap (λ b. queueing (hall_in a) f w
-      (record { semaphore = x.semaphore; demand = demand_of b; plain = x.plain; forgets = x.forgets; stage = New })) new in
+      let hall : (step (hall_in a) i (events.Poll f w)).hall ≡ queueing (hall_in a) f w (at_stage (record x { acquire = acquires.New d }) New) =
+      ap (λ o. o.hall) chosen ∙ ap (λ b. queueing (hall_in a) f w (at_stage (record x { acquire = b }) New)) new in
       let core : e2 ≡ record e { core = record e.core { free = 0; queue = e.core.queue ++ (cores.Acquires n d w, d - e.core.free) ∷ [] } } =
       rest ∙ ap (λ (c : cores.Core ℕ). record e { core = c }) queues.is in
       let plays = plays_queued st st' (registered_in a) a.list.registered out.spare a.kept.next i x.semaphore f w d n x e m.meets.kept (later m.meets)
@@ -79,10 +77,8 @@ module _ {a : Inside} {v : Play} {i f : ℕ} {x : FutureEntry} {e : SemaphoreEnt
       (registered_in a) a.list.registered a.list.wakers
   again_done w d n ss' fs' e2 x2 waits queued same written changes core held =
       let chosen = pending_again m w d n waits.0 queued waits.1 in
-      let hall : (step (hall_in a) i (events.Poll f w)).hall ≡ with_future (hall_in a) f
-      (record { semaphore = x.semaphore; demand = d; plain = x.plain; forgets = x.forgets; stage = Waiting w }) =
-      ap (λ o. o.hall) chosen ∙ ap (λ b. with_future (hall_in a) f
-      (record { semaphore = x.semaphore; demand = demand_of b; plain = x.plain; forgets = x.forgets; stage = Waiting w })) queued in
+      let hall : (step (hall_in a) i (events.Poll f w)).hall ≡ with_future (hall_in a) f (at_stage (record x { acquire = acquires.Queued d n }) (Waiting w)) =
+      ap (λ o. o.hall) chosen ∙ ap (λ b. with_future (hall_in a) f (at_stage (record x { acquire = b }) (Waiting w))) queued in
       let plays = plays_again (store_in a) (store_of ss' fs' a.kept.permits.entries)
       (registered_in a) a.list.registered a.kept.next i x.semaphore f w d n waits.0 x e m.meets.kept (later m.meets) m.meets.low refl queued (home_there m)
       (semaphores_of (semaphores_in a) ss' x.semaphore e2 _ changes core) (future_there m)

@@ -8,7 +8,7 @@ use Rattle.mea_sem_core.specs.Core as cores
 use Rattle.mea_sem_core.specs.Calls.{Belongs}
 use Rattle.mea_sem.specs.declared.entries.SemaphoreEntry.{SemaphoreEntry}
 use Rattle.mea_sem.specs.declared.entries.FutureEntry.{FutureEntry}
-use Rattle.mea_sem.specs.Store.{Store, queue_of, hall_of, IsNumbered, IsLinked}
+use Rattle.mea_sem.specs.Store.{Store, queue_of, hall_of, IsNumbered, IsLinked, seen_as}
 use Rattle.mea_sem.proofs.ClosedCores.{keeps_closed}
 use Rattle.mea_sem.proofs.Changes.{Changes, linked_after, queue_kept, semaphores_after, futures_same}
 
@@ -50,20 +50,6 @@ module _ (st st' : Store) (next i s : ℕ) (e e' : SemaphoreEntry) (linked : IsL
   belongs_still d n (inl (inr waits)) = inl (inr (waits.0, still.waiting n ∙ waits.1))
   belongs_still d n (inr cut) = inr (still.closed ∙ cut.0, ap (λ g. get g n) still.cut ∙ cut.1)
 
-  numbered_still : IsNumbered e'.core
-  numbered_still =
-      let old : IsNumbered e.core = linked.numbered s e there in
-      record {
-        apart = still.apart old.apart;
-        granted_apart = λ n waits. ap (λ g. get g n) still.granted ∙ old.granted_apart n (λ none. waits (still.waiting n ∙ none));
-        cut_apart = λ n some.
-            let parts = old.cut_apart n (λ none. some (ap (λ g. get g n) still.cut ∙ none)) in
-            (still.waiting n ∙ parts.0, ap (λ g. get g n) still.granted ∙ parts.1);
-        closing = keeps_closed e.core.closed e'.core.closed e.core.queue e'.core.queue e.core.cut e'.core.cut still.closed
-            (λ h. still.only_debts h)
-            (λ h. still.cut ∙ h) old.closing;
-      }
-
   -- the number i is no future's, before and after
   pub changes_still : Changes st st' next (i + 1) s i e e' None None
   changes_still = record {
@@ -83,7 +69,18 @@ module _ (st st' : Store) (next i s : ℕ) (e e' : SemaphoreEntry) (linked : IsL
     cut = λ n d is. (refl, ap (λ g. get g n) (sym still.cut) ∙ is);
     cuts = λ n free free_now. ap (λ g. get g n) still.cut;
     alone = λ g n x y is. absurd (cc);
-    numbered = numbered_still;
+    numbered =
+        let old : IsNumbered e.core = linked.numbered s e there in
+        record {
+          apart = still.apart old.apart;
+          granted_apart = λ n waits. ap (λ g. get g n) still.granted ∙ old.granted_apart n (λ none. waits (still.waiting n ∙ none));
+          cut_apart = λ n some.
+              let parts = old.cut_apart n (λ none. some (ap (λ g. get g n) still.cut ∙ none)) in
+              (still.waiting n ∙ parts.0, ap (λ g. get g n) still.granted ∙ parts.1);
+          closing = keeps_closed e.core.closed e'.core.closed e.core.queue e'.core.queue e.core.cut e'.core.cut still.closed
+              (λ h. still.only_debts h)
+              (λ h. still.cut ∙ h) old.closing;
+        };
   }
     where
       at_i : (g : ℕ) (t : Bool) → (i == g) ≡ t → get st.futures g ≡ cond t None (get st.futures g)
@@ -99,16 +96,13 @@ module _ (st st' : Store) (next i s : ℕ) (e e' : SemaphoreEntry) (linked : IsL
   -- the hall after it, where the queue is seen as q
   pub hall_still : (q : List (Who × ℕ)) → queue_of st'.futures (i + 1) s e'.core.queue ≡ q
       → hall_of st' (i + 1) ≡ record {
-        semaphores = insert (hall_of st next).semaphores s
-            (record { free = e'.core.free; queue = q; made = e'.made; released = e'.released; forgotten = e'.forgotten; named = e'.named; closed = e'.core.closed });
-        futures =
-            (hall_of st next).futures;
+        semaphores = insert (hall_of st next).semaphores s (seen_as e' q);
+        futures = (hall_of st next).futures;
         permits = st'.permits;
       }
   hall_still q seen = λ j. record {
     semaphores = (semaphores_after st st' next (i + 1) s i e e' None None linked changes_still
-        ∙ ap (λ p. insert (hall_of st next).semaphores s
-        (record { free = e'.core.free; queue = p; made = e'.made; released = e'.released; forgotten = e'.forgotten; named = e'.named; closed = e'.core.closed })) seen) j;
+        ∙ ap (λ p. insert (hall_of st next).semaphores s (seen_as e' p)) seen) j;
     futures = futures_same st st' next (i + 1) s i e e' None None linked changes_still refl refl j;
     permits = st'.permits;
   }

@@ -2,5 +2,6 @@ pub mod Play
 pub mod Store
 pub mod Kept
 pub mod Entries
+pub mod Actions
 pub mod Grants
 pub mod StandsFor

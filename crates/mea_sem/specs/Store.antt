@@ -72,8 +72,12 @@ who_of futures bound s cores.Owes = Debt
 abbrev pub queue_of : FinMap nat_cmp FutureEntry → ℕ → ℕ → List (cores.Waiter ℕ × ℕ) → List (Who × ℕ)
 queue_of futures bound s q = map (λ (e : cores.Waiter ℕ × ℕ). (who_of futures bound s e.0, e.1)) q
 
+-- a semaphore with this queue
+abbrev pub seen_as : SemaphoreEntry → List (Who × ℕ) → Semaphore
+seen_as e queue = record { free = e.core.free; queue = queue; made = e.made; released = e.released; forgotten = e.forgotten; named = e.named; closed = e.core.closed }
+
 abbrev pub semaphore_of : FinMap nat_cmp FutureEntry → ℕ → ℕ → SemaphoreEntry → Semaphore
-semaphore_of futures bound s e = record { free = e.core.free; queue = queue_of futures bound s e.core.queue; made = e.made; released = e.released; forgotten = e.forgotten; named = e.named; closed = e.core.closed }
+semaphore_of futures bound s e = seen_as e (queue_of futures bound s e.core.queue)
 
 -- a number with a waker waits, one with the demand that it was cut with is cut, and another was granted
 abbrev pub stage_under : Option ℕ → Option ℕ → FutureStage
@@ -92,8 +96,12 @@ abbrev pub core_in : Option SemaphoreEntry → cores.Core ℕ
 core_in None = record { free = 0; live = 0; queue = []; granted = empty; cut = empty; closed = false; wakes = [] }
 core_in (Some e) = e.core
 
+-- a future at this stage
+abbrev pub at_stage : FutureEntry → FutureStage → Future
+at_stage x stage = record { semaphore = x.semaphore; demand = demand_of x.acquire; plain = x.plain; forgets = x.forgets; stage = stage }
+
 abbrev pub future_of : FinMap nat_cmp SemaphoreEntry → FutureEntry → Future
-future_of semaphores x = record { semaphore = x.semaphore; demand = demand_of x.acquire; plain = x.plain; forgets = x.forgets; stage = stage_of x.acquire (core_in (get semaphores x.semaphore)) }
+future_of semaphores x = at_stage x (stage_of x.acquire (core_in (get semaphores x.semaphore)))
 
 -- the hall, where all names are below the bound
 abbrev pub hall_of : Store → ℕ → Hall

@@ -4,9 +4,10 @@ ghost use Rattle.mea_sem_core.specs.Acquire.{demand_of};
 ghost use Rattle.mea_sem_core.specs.Core.{held_of, paid_of, poured, wakers_of, paid_waiting, debts, closed_core};
 ghost use Rattle.mea_sem_core.specs.Calls.{Belongs, IsRefused, Queues, after_refusal, forgetting, forgetting_exactly};
 
+use crate::actions::Action;
 use crate::moving::hand_on;
 use mea_base::{NoMemory, Ready};
-use mea_family::{Ledger, Stop, one_if};
+use mea_family::{Answer, Ledger, Stop, one_if};
 use mea_sem_core::{Acquire, SemCore};
 
 /// What a hall keeps of a semaphore.
@@ -83,35 +84,6 @@ impl SemaphoreEntry {
             Ok(())
         } else {
             Err(Stop::Unknown)
-        }
-    }
-
-    /// Refuses what names the semaphore, or more permits than its live ones leave room for.
-    pub fn has_room_for(&self, n: usize) -> Result<(), Stop>
-        ensures known { OnOk result (self.now.named ≡ true) }
-        ensures fits { OnOk result (self.now.core.live + n < 2 ^ 64) }
-        ensures refused { IfErr result (λ stop. ((self.now.named ≡ false) × (stop ≡ Stop.Unknown))
-            ⊎ ((self.now.named ≡ true) × (2 ^ 64 ≤ self.now.core.live + n) × (stop ≡ Stop.Overflow))) }
-    {
-        self.known()?;
-        match self.core.live().checked_add(n) {
-            Some(_) => Ok(()),
-            None => Err(Stop::Overflow),
-        }
-    }
-
-    /// Refuses the end of the name, where that is ended or a plain thing borrows the semaphore.
-    pub fn is_not_borrowed(&self) -> Result<(), Stop>
-        ensures known { OnOk result (self.now.named ≡ true) }
-        ensures free { OnOk result (self.now.plain ≡ 0) }
-        ensures refused { IfErr result (λ stop. ((self.now.named ≡ false) × (stop ≡ Stop.Unknown))
-            ⊎ ((self.now.named ≡ true) × (0 < self.now.plain) × (stop ≡ Stop.Borrowed))) }
-    {
-        self.known()?;
-        if self.plain > 0 {
-            Err(Stop::Borrowed)
-        } else {
-            Ok(())
         }
     }
 
@@ -276,6 +248,81 @@ impl SemaphoreEntry {
     {
         self.plain -= one_if(plain);
         self.things -= 1;
+    }
+}
+
+impl SemaphoreEntry {
+    ghost use Rattle.mea_sem.specs.Actions.{Finds, Refuses, Acts, woken_by};
+    ghost use Rattle.mea_sem.specs.Kept.{wakers_in};
+
+    /// Refuses what the semaphore does not allow, want of memory apart.
+    #[inline(always)]
+    fn allows(&self, action: Action) -> Result<(), Stop>
+        ensures known { OnOk result (self.now.named ≡ true) }
+        ensures finds { OnOk result (Finds self.now action) }
+        ensures refused { IfErr result (λ stop. ((self.now.named ≡ false) × (stop ≡ Stop.Unknown)) ⊎ ((self.now.named ≡ true) × Refuses self.now action stop)) }
+    {
+        self.known()?;
+        match action {
+            Action::Release(n) => match self.core.live().checked_add(n as usize) {
+                Some(_) => Ok(()),
+                None => Err(Stop::Overflow),
+            },
+            Action::EndName if self.plain > 0 => Err(Stop::Borrowed),
+            Action::EndName => Ok(()),
+            _ => Ok(()),
+        }
+    }
+
+    /// Does an action, and hands the wakers on. Where it is refused, nothing has changed.
+    #[inline(always)]
+    pub fn act(&mut self, action: Action, ready: &mut Ready<u64>) -> Result<Answer, Stop>
+        requires forgotten { self.old.forgotten + 2 ^ 64 ≤ 2 ^ 128 }
+        requires released { self.old.released + 2 ^ 64 ≤ 2 ^ 128 }
+        requires quiet { self.old.core.wakes ≡ [] }
+        requires room { wakers_in self.old.core.queue ≤ ready.old.registered }
+        requires account { self.old.core.live + self.old.forgotten ≡ self.old.made + self.old.released + debts self.old.core.queue }
+        requires few { self.old.core.live + self.old.forgotten < 2 ^ 128 }
+        ensures known { OnOk result (self.old.named ≡ true) }
+        ensures finds { OnOk result (Finds self.old action) }
+        ensures acts { IfOk result (λ answer. Acts self.old action answer self.new) }
+        ensures held { held_of self.new.core ≡ held_of self.old.core }
+        ensures moved { OnOk result (ready.new.wakers ≡ ready.old.wakers ++ woken_by self.old action) }
+        ensures counted { OnOk result (ready.new.registered + length (woken_by self.old action) ≡ ready.old.registered) }
+        ensures refused { IfErr result (λ stop. ((self.old.named ≡ false) × (stop ≡ Stop.Unknown)) ⊎ ((self.old.named ≡ true) × Refuses self.old action stop)) }
+        ensures err { OnErr result ((self.new ≡ self.old) × (ready.new ≡ ready.old)) }
+    {
+        self.allows(action)?;
+        match action {
+            Action::Free => Ok(Answer::Free(self.core.available_permits() as u64)),
+            Action::Forget(n) => Ok(Answer::Forgot(self.forget(n as usize) as u64)),
+            Action::ForgetExact(n) => {
+                self.forget_exact(n as usize)?;
+                Ok(Answer::Done)
+            }
+            Action::Release(n) => {
+                self.release(n as usize, ready);
+                Ok(Answer::Done)
+            }
+            Action::TryAndForget(n) => {
+                if !self.offers(n as usize) {
+                    return Ok(Answer::No);
+                }
+                let _all = self.forget(n as usize);
+                Ok(Answer::Yes)
+            }
+            Action::EndName => {
+                self.named = false;
+                Ok(Answer::Done)
+            }
+            Action::Close => {
+                self.close(ready);
+                Ok(Answer::Done)
+            }
+            Action::Closed if self.core.is_closed() => Ok(Answer::Yes),
+            Action::Closed => Ok(Answer::No),
+            Action::Ledger => Ok(Answer::Account(self.ledger())),
+        }
     }
 }
 

@@ -6,6 +6,7 @@ ghost use Rattle.mea_sem_model.specs.Waiters.{waiters};
 ghost use Rattle.mea_sem.specs.Play.{PlaysIn, TakesNoMemory};
 ghost use Rattle.mea_sem.specs.StandsFor.{StandsFor};
 
+use crate::actions::Action;
 use crate::entries::{EndedEntry, FutureEntry, PermitEntry, SemaphoreEntry};
 use crate::grant::Grant;
 use mea_base::Ready;
@@ -115,14 +116,17 @@ impl SemFamily {
         // Each arm returns, and what an arm calls is inlined: where arms meet, the reply is copied once more.
         match *event {
             SemEvent::New(n) => return self.make(number, n),
-            SemEvent::Free(s) => return self.free(number, s),
-            SemEvent::Forget(s, n) => return self.forget(number, s, n),
-            SemEvent::Forgetx(s, n) => return self.forget_exact(number, s, n),
-            SemEvent::Release(s, n) => return self.release(number, s, n, ready),
+            SemEvent::Free(s) => return self.act_on(number, s, Action::Free, ready),
+            SemEvent::Forget(s, n) => return self.act_on(number, s, Action::Forget(n), ready),
+            SemEvent::Forgetx(s, n) => return self.act_on(number, s, Action::ForgetExact(n), ready),
+            SemEvent::Release(s, n) => return self.act_on(number, s, Action::Release(n), ready),
             SemEvent::Try(s, n) => return self.try_permit(number, s, n, Form::Plain),
             SemEvent::Tryo(s, n) => return self.try_permit(number, s, n, Form::Owned),
-            SemEvent::Tryf(s, n) | SemEvent::Tryof(s, n) => return self.try_and_forget(
-                number, s, n,
+            SemEvent::Tryf(s, n) | SemEvent::Tryof(s, n) => return self.act_on(
+                number,
+                s,
+                Action::TryAndForget(n),
+                ready,
             ),
             SemEvent::Acq(s, n) => return self.acquire(number, s, n, Form::Plain, Grant::Held),
             SemEvent::Acqo(s, n) => return self.acquire(number, s, n, Form::Owned, Grant::Held),
@@ -146,10 +150,10 @@ impl SemFamily {
             SemEvent::Merge(p, q) => return self.merge(number, p, q),
             SemEvent::Split(p, n) => return self.split(number, p, n),
             SemEvent::Size(p) => return self.size(number, p),
-            SemEvent::Endsem(s) => return self.end_name(number, s),
-            SemEvent::Ledger(s) => return self.ledger(number, s),
-            SemEvent::Close(s) => return self.close(number, s, ready),
-            SemEvent::Closed(s) => return self.closed(number, s),
+            SemEvent::Endsem(s) => return self.act_on(number, s, Action::EndName, ready),
+            SemEvent::Ledger(s) => return self.act_on(number, s, Action::Ledger, ready),
+            SemEvent::Close(s) => return self.act_on(number, s, Action::Close, ready),
+            SemEvent::Closed(s) => return self.act_on(number, s, Action::Closed, ready),
         }
     }
 }

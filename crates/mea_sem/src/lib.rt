@@ -3,6 +3,7 @@
 //! names of both again.
 #![tactic(auto)]
 
+mod actions;
 mod causes;
 mod entries;
 mod family;

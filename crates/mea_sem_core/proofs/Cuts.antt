@@ -85,10 +85,6 @@ next_behind order front back n None distinct split some last = ap first_of (sym 
 next_behind order front back n (Some m) distinct split some last =
     ap first_of (sym (tail_is order front back some.0 (m ∷ some.1) n distinct split some.2))
 
-pub first_is : (order : List ℕ) (first : Option ℕ) → IfSome first (λ n. order ≡ n ∷ drop 1 order) → IfNone first (order ≡ []) → first ≡ first_of order
-first_is order None some none = ap first_of (sym none)
-first_is order (Some n) some none = ap first_of (sym some)
-
 length-middle : (front : List ℕ) (n : ℕ) (back : List ℕ) → length (front ++ n ∷ back) ≡ length (front ++ back) + 1
 length-middle [] n back = omega arith
 length-middle (k ∷ ks) n back = omega (arith, length-middle ks n back)
@@ -194,20 +190,6 @@ module _ {W : Type 0} where
     pub paid_left : paid_in now + paid ≡ paid_in start
     pub place : Reaches now.slots now.order next
 
-  pub Cutting-init : (start : Waits (WaitRecord W)) (box : Wakes W) (first : Option ℕ) → IsQueue start → length start.order ≤ box.spare
-      → IfSome first (λ n. start.order ≡ n ∷ drop 1 start.order) → IfNone first (start.order ≡ []) → Cutting start start box box 0 first
-  Cutting-init start box first kept room some none = record {
-    queue = refl;
-    granted = refl;
-    cut = refl;
-    wakers = refl;
-    paid_is = omega arith;
-    kept = kept;
-    room = room;
-    paid_left = omega arith;
-    place = record { front = []; back = start.order; split = refl; debts = tt; next_is = first_is start.order first some none };
-  }
-
   pub Cutting-end : (start now : Waits (WaitRecord W)) (start_box now_box : Wakes W) (paid : ℕ) → Cutting start now start_box now_box paid None
       → CutsQueue start now start_box now_box paid
   Cutting-end start now start_box now_box paid so = by_back so.place.back so.place.split so.place.next_is
@@ -229,15 +211,6 @@ module _ {W : Type 0} where
       by_back : (back : List ℕ) → now.order ≡ so.place.front ++ back → None ≡ first_of back → CutsQueue start now start_box now_box paid
       by_back [] split is = ended (rw (split, append-nil so.place.front) so.place.debts)
       by_back (n ∷ ns) split is = absurd (cc)
-
-  -- the next number is linked
-  pub Cutting-linked : (start now : Waits (WaitRecord W)) (start_box now_box : Wakes W) (paid n : ℕ) → Cutting start now start_box now_box paid (Some n)
-      → is_linked now n ≡ true
-  Cutting-linked start now start_box now_box paid n so = by_back so.place.back so.place.split so.place.next_is
-    where
-      by_back : (back : List ℕ) → now.order ≡ so.place.front ++ back → Some n ≡ first_of back → is_linked now n ≡ true
-      by_back [] split is = absurd (cc)
-      by_back (k ∷ ks) split is = let same : n ≡ k = cc in rw (split, same) (linked_split so.place.front k ks)
 
   -- one turn, and what of the queue is left to be looked at
   pub record Turns (start new : Waits (WaitRecord W)) (start_box new_box : Wakes W) (paid : ℕ) (next : Option ℕ) (left : ℕ) : Type 0 where

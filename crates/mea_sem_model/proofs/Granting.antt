@@ -162,10 +162,6 @@ module _ (h g : Hall) (q n i : ℕ) (e : SemEvent) (m : IsMatched g) (v : IsOrde
             ∙ ap (λ o. option_map granted o) is,
       )
 
-  queues : (s : ℕ) → (q ≡ s → ⊥) → queue_at after s ≡ queue_at g s
-  queues s apart = by_semaphore g q (poured (semaphore_at g q) n) (λ k y. (q ≡ k → ⊥)
-      → y.queue ≡ queue_at g k) (λ no. absurd (no refl)) (λ k other no. refl) s apart
-
   queue_here : queue_at after q ≡ waiting_after (queue_at g q) n
   queue_here = by_semaphore g q (poured (semaphore_at g q) n) (λ k y. k ≡ q
       → y.queue ≡ waiting_after (queue_at g q) n) (λ e. refl) (λ k other e. absurd (other (sym e))) q refl

@@ -216,39 +216,6 @@ module _ (r : Run) (i g w : ℕ) (x : Future) (is : get r.hall.futures g ≡ Som
             how = inl (same, ap (λ (u : Future). u.stage) (sym now), pended);
           }
 
-  poll_asks : (f : ℕ) (y : Future) → get next.hall.futures f ≡ Some y → asked next.trace f ≡ Some (y.semaphore, y.demand)
-  poll_asks f y there =
-      let u = origin f y there in
-      old_asked f (kept.below.futures f (is_there (get r.hall.futures f) u.z u.at)) ∙ o.asks f u.z u.at ∙ (λ k. Some (sym u.of k, sym u.wants k))
-
-  poll_unpolled : (f : ℕ) (y : Future) → get next.hall.futures f ≡ Some y → y.stage ≡ New → first_poll next.trace f ≡ None
-  poll_unpolled f y there new =
-      let u = origin f y there in
-      elim u.how [
-        | inl mine ↦ absurd (let waits = mine.1 in cc)
-        | inr other ↦ first_unpolled t r.trace f (polls_no_other f other.0) ∙ o.unpolled f u.z u.at (ap (λ (z : Future). z.stage) (sym other.1) ∙ new)
-      ]
-
-  poll_polled : (f : ℕ) (y : Future) → get next.hall.futures f ≡ Some y → (y.stage ≡ New → ⊥) → IsSome (first_poll next.trace f)
-  poll_polled f y there old =
-      let u = origin f y there in
-      elim u.how [
-        | inl mine ↦ subst (λ k. IsSome (first_poll next.trace k)) mine.0 (polled_now t r.trace g w polls_g)
-        | inr other ↦ ap is_some (first_unpolled t r.trace f (polls_no_other f other.0))
-            ∙ o.polled f u.z u.at (λ new. old (ap (λ (z : Future). z.stage) other.1 ∙ new))
-      ]
-
-  poll_waker : (f v : ℕ) (y : Future) → get next.hall.futures f ≡ Some y → y.stage ≡ Waiting v → last_waker semaphores next.trace f ≡ Some v
-  poll_waker f v y there waits =
-      let u = origin f y there in
-      elim u.how [
-        | inl mine ↦
-            let now : Some w ≡ Some v = ap waker_at (sym mine.1 ∙ waits) in
-            subst (λ k. last_waker semaphores next.trace k ≡ Some v) mine.0
-            (ap (λ p. last_waker_at semaphores t p (last_waker semaphores r.trace g)) polls_g ∙ ap (λ a. kept_waker a w) mine.2.reply ∙ now)
-        | inr other ↦ waker_unpolled t r.trace f (polls_no_other f other.0) ∙ o.waker f v u.z u.at (ap (λ (z : Future). z.stage) (sym other.1) ∙ waits)
-      ]
-
   poll_gone : (f : ℕ) → IsSome (first_poll next.trace f) → get next.hall.futures f ≡ None
       → (was_ready next.trace f ≡ true) ⊎ ((was_ended next.trace f ≡ true) ⊎ (was_refused next.trace f ≡ true))
   poll_gone f some none = by_name g f (λ same. mine same gives.how) (λ apart. other apart (old apart))
@@ -269,16 +236,6 @@ module _ (r : Run) (i g w : ℕ) (x : Future) (is : get r.hall.futures g ≡ Som
       other apart (inl was) = inl (ready_unpolled t r.trace f (polls_no_other f apart) ∙ was)
       other apart (inr (inl was)) = inr (inl was)
       other apart (inr (inr was)) = inr (inr (refused_unpolled t r.trace f (polls_no_other f apart) ∙ was))
-
-  poll_names : (f : ℕ) → IsSome (first_poll next.trace f) → f < i + 1
-  poll_names f some = by_name g f (λ same. omega (arith, low, later, same)) (λ apart.
-      let less = o.names f (ap is_some (sym (first_unpolled t r.trace f (polls_no_other f apart))) ∙ some) in omega (arith, less, later))
-
-  poll_early : (f j : ℕ) → first_poll next.trace f ≡ Some j → j < i + 1
-  poll_early f j first = elim (first_cases t r.trace f j first) [
-    | inl old ↦ let less = o.early f j old in omega (arith, less, later)
-    | inr now ↦ omega (arith, now)
-  ]
 
   -- an old rank is below i
   rank_low : (f : ℕ) → IsSome (first_poll r.trace f) → rank r.trace f < i
@@ -401,14 +358,6 @@ module _ (r : Run) (i g w : ℕ) (x : Future) (is : get r.hall.futures g ≡ Som
       mine same (inl (inr refused)) = inl (inl (was_before k (ap is_ready refused.reply) was))
       mine same (inr pended) = inl (inl (was_before k (ap is_ready pended.reply) was))
 
-  poll_late : (k s n : ℕ) → asked next.trace k ≡ Some (s, n) → 0 < n → HasPermits next k → (f : ℕ) (y : Future) → get next.hall.futures f ≡ Some y
-      → y.semaphore ≡ s → lags y.stage ≡ true → rank next.trace k < rank next.trace f
-  poll_late k s n asks some has f y there of behind = elim (had_or_ready k has) [
-    | inl had ↦ after_old k s n asks some had f y there of behind
-    | inr now ↦ subst (λ j. rank next.trace j < rank next.trace f) now.0
-        (after_ready now.1 s n (ap (asked next.trace) now.0 ∙ asks) some f y there of behind)
-  ]
-
   -- who was refused now was refused before, or is refused now
   refused_or_now : (f : ℕ) → was_refused next.trace f ≡ true → (was_refused r.trace f ≡ true) ⊎ ((g ≡ f) × Refused r.hall g x (step r.hall i e))
   refused_or_now f was = by_name g f (λ same. mine same gives.how) (λ apart. inl (sym (refused_unpolled t r.trace f (polls_no_other f apart)) ∙ was))
@@ -428,13 +377,6 @@ module _ (r : Run) (i g w : ℕ) (x : Future) (is : get r.hall.futures g ≡ Som
   -- the semaphore of one that was refused before is closed
   shut_old : (f s m : ℕ) → asked next.trace f ≡ Some (s, m) → was_refused r.trace f ≡ true → is_closed r.hall s ≡ true
   shut_old f s m asks was = o.shut f s m (sym (old_asked f (o.names f (refused_polled r.trace f was))) ∙ asks) was
-
-  poll_shut : (f s m : ℕ) → asked next.trace f ≡ Some (s, m) → was_refused next.trace f ≡ true → is_closed next.hall s ≡ true
-  poll_shut f s m asks was =
-      (tallies r.hall i s (below_later r.hall r.next i later kept.below) e).closed (elim (refused_or_now f was) [
-        | inl old ↦ shut_old f s m asks old
-        | inr now ↦ ap (is_closed r.hall) (sym (own_ask s m (ap (asked next.trace) now.0 ∙ asks)).0) ∙ now.1.closed
-      ])
 
   -- who had its permits before comes before who is refused now
   before_refused : (k s n : ℕ) → asked next.trace k ≡ Some (s, n) → 0 < n → HasPermits r k → x.semaphore ≡ s → (x.stage ≡ New) ⊎ (x.stage ≡ Cut)
@@ -477,15 +419,48 @@ module _ (r : Run) (i g w : ℕ) (x : Future) (is : get r.hall.futures g ≡ Som
 
   pub poll_ordered : Ordered next
   poll_ordered = record {
-    asks = poll_asks;
-    unpolled = poll_unpolled;
-    polled = poll_polled;
-    waker = poll_waker;
+    asks = λ f y there.
+        let u = origin f y there in
+        old_asked f (kept.below.futures f (is_there (get r.hall.futures f) u.z u.at)) ∙ o.asks f u.z u.at ∙ (λ k. Some (sym u.of k, sym u.wants k));
+    unpolled = λ f y there new.
+        let u = origin f y there in
+        elim u.how [
+          | inl mine ↦ absurd (let waits = mine.1 in cc)
+          | inr other ↦ first_unpolled t r.trace f (polls_no_other f other.0) ∙ o.unpolled f u.z u.at (ap (λ (z : Future). z.stage) (sym other.1) ∙ new)
+        ];
+    polled = λ f y there old.
+        let u = origin f y there in
+        elim u.how [
+          | inl mine ↦ subst (λ k. IsSome (first_poll next.trace k)) mine.0 (polled_now t r.trace g w polls_g)
+          | inr other ↦ ap is_some (first_unpolled t r.trace f (polls_no_other f other.0))
+              ∙ o.polled f u.z u.at (λ new. old (ap (λ (z : Future). z.stage) other.1 ∙ new))
+        ];
+    waker = λ f v y there waits.
+        let u = origin f y there in
+        elim u.how [
+          | inl mine ↦
+              let now : Some w ≡ Some v = ap waker_at (sym mine.1 ∙ waits) in
+              subst (λ k. last_waker semaphores next.trace k ≡ Some v) mine.0
+              (ap (λ p. last_waker_at semaphores t p (last_waker semaphores r.trace g)) polls_g ∙ ap (λ a. kept_waker a w) mine.2.reply ∙ now)
+          | inr other ↦ waker_unpolled t r.trace f (polls_no_other f other.0) ∙ o.waker f v u.z u.at (ap (λ (z : Future). z.stage) (sym other.1) ∙ waits)
+        ];
     gone = poll_gone;
-    names = poll_names;
-    early = poll_early;
+    names = λ f some. by_name g f (λ same. omega (arith, low, later, same)) (λ apart.
+        let less = o.names f (ap is_some (sym (first_unpolled t r.trace f (polls_no_other f apart))) ∙ some) in omega (arith, less, later));
+    early = λ f j first. elim (first_cases t r.trace f j first) [
+      | inl old ↦ let less = o.early f j old in omega (arith, less, later)
+      | inr now ↦ omega (arith, now)
+    ];
     ranked = poll_ranked;
-    late = poll_late;
+    late = λ k s n asks some has f y there of behind. elim (had_or_ready k has) [
+      | inl had ↦ after_old k s n asks some had f y there of behind
+      | inr now ↦ subst (λ j. rank next.trace j < rank next.trace f) now.0
+          (after_ready now.1 s n (ap (asked next.trace) now.0 ∙ asks) some f y there of behind)
+    ];
     late_refused = poll_late_refused;
-    shut = poll_shut;
+    shut = λ f s m asks was.
+        (tallies r.hall i s (below_later r.hall r.next i later kept.below) e).closed (elim (refused_or_now f was) [
+          | inl old ↦ shut_old f s m asks old
+          | inr now ↦ ap (is_closed r.hall) (sym (own_ask s m (ap (asked next.trace) now.0 ∙ asks)).0) ∙ now.1.closed
+        ]);
   }

@@ -83,24 +83,6 @@ module _ (r : Run) (i : ℕ) (e : SemEvent) (o : Ordered r) (runs : IsSemRun r) 
     | inr new ↦ absurd (let fresh = new.1 in cc)
   ]
 
-  quiet_asks : (f : ℕ) (y : Future) → get next.hall.futures f ≡ Some y → asked next.trace f ≡ Some (y.semaphore, y.demand)
-  quiet_asks f y is = elim (given.each f y is) [
-    | inl x ↦
-        let of : y.semaphore ≡ x.0.semaphore = ap (λ (z : Future). z.semaphore) x.2 ∙ staged_semaphore given.stage (among given.who f) x.0 in
-        let n : y.demand ≡ x.0.demand = ap (λ (z : Future). z.demand) x.2 ∙ staged_demand given.stage (among given.who f) x.0 in
-        asked_before f (lives_low f x.0 x.1) ∙ o.asks f x.0 x.1 ∙ (λ k. Some (sym of k, sym n k))
-    | inr new ↦ at_same i f (acquire_in e) (asked r.trace f) (sym new.0) ∙ new.2
-  ]
-
-  quiet_unpolled : (f : ℕ) (y : Future) → get next.hall.futures f ≡ Some y → y.stage ≡ New → first_poll next.trace f ≡ None
-  quiet_unpolled f y is fresh = same_first f ∙ elim (given.each f y is) [
-    | inl x ↦
-        let stage : (cond (among given.who f) (staged given.stage x.0) x.0).stage ≡ New = ap (λ (z : Future). z.stage) (sym x.2) ∙ fresh in
-        let same = not_staged given.stage (among given.who f) x.0 (λ done. unstaged New (λ no. absurd (cc)) (λ no. absurd (cc)) (sym done ∙ stage)) in
-        o.unpolled f x.0 x.1 (sym same.1 ∙ stage)
-    | inr new ↦ is_absent (first_poll r.trace f) (λ some. absurd (let low = o.names f some in let same = new.0 in omega (arith, low, same, later)))
-  ]
-
   quiet_polled : (f : ℕ) (y : Future) → get next.hall.futures f ≡ Some y → (y.stage ≡ New → ⊥) → IsSome (first_poll next.trace f)
   quiet_polled f y is old = ap is_some (same_first f) ∙ elim (given.each f y is) [
     | inl x ↦ by_grant x.0 x.1 (among given.who f) refl x.2
@@ -110,9 +92,6 @@ module _ (r : Run) (i : ℕ) (e : SemEvent) (o : Ordered r) (runs : IsSemRun r) 
       by_grant : (x : Future) → get r.hall.futures f ≡ Some x → (b : Bool) → among given.who f ≡ b → y ≡ cond b (staged given.stage x) x → IsSome (first_poll r.trace f)
       by_grant x at true a same = let z = given.got f a in o.polled f z.0 z.2 (λ new. absurd (let waits = z.4 in cc))
       by_grant x at false a same = o.polled f x at (λ new. old (ap (λ (z : Future). z.stage) same ∙ new))
-
-  quiet_waker : (f w : ℕ) (y : Future) → get next.hall.futures f ≡ Some y → y.stage ≡ Waiting w → last_waker semaphores next.trace f ≡ Some w
-  quiet_waker f w y is waits = let x = waited f w y is waits in waker_unpolled t r.trace f (quiet f) ∙ o.waker f w x.0 x.1 x.3
 
   quiet_gone : (f : ℕ) → IsSome (first_poll next.trace f) → get next.hall.futures f ≡ None
       → (was_ready next.trace f ≡ true) ⊎ ((was_ended next.trace f ≡ true) ⊎ (was_refused next.trace f ≡ true))
@@ -204,35 +183,40 @@ module _ (r : Run) (i : ℕ) (e : SemEvent) (o : Ordered r) (runs : IsSemRun r) 
           ∙ e) (kept.orderly.closed f before.0 before.1) in
           absurd (let closed : is_closed r.hall s ≡ true = ap (is_closed r.hall) (sym of ∙ sym before.2) ∙ shut in cc)
 
-  quiet_shut : (f s m : ℕ) → asked next.trace f ≡ Some (s, m) → was_refused next.trace f ≡ true → is_closed next.hall s ≡ true
-  quiet_shut f s m asks was =
-      let old : was_refused r.trace f ≡ true = sym (refused_unpolled t r.trace f (quiet f)) ∙ was in
-      let low = o.names f (refused_polled r.trace f old) in
-      (tallies r.hall i s (below_later r.hall r.next i later kept.below) e).closed (o.shut f s m (sym (asked_before f low) ∙ asks) old)
-
-  quiet_late_refused : (g s n : ℕ) → asked next.trace g ≡ Some (s, n) → 0 < n → HasPermits next g → (f m : ℕ) → (g ≡ f → ⊥) → asked next.trace f ≡ Some (s, m)
-      → was_refused next.trace f ≡ true → rank next.trace g < rank next.trace f
-  quiet_late_refused g s n asks some has f m apart also was =
-      let old : was_refused r.trace f ≡ true = sym (refused_unpolled t r.trace f (quiet f)) ∙ was in
-      let before : asked r.trace f ≡ Some (s, m) = sym (asked_before f (o.names f (refused_polled r.trace f old))) ∙ also in
-      elim (had_or_waited g s n asks has) [
-        | inl had ↦
-            let less = o.late_refused g s n (sym (asked_before g (o.names g (permits_polled r o g had))) ∙ asks) some had f m apart before old in
-            omega (arith, less, same_rank g, same_rank f)
-        | inr now ↦ absurd (let shut = o.shut f s m before old in let open_still = now.3 in cc)
-      ]
-
   pub quiet_ordered : Ordered next
   quiet_ordered = record {
-    asks = quiet_asks;
-    unpolled = quiet_unpolled;
+    asks = λ f y is. elim (given.each f y is) [
+      | inl x ↦
+          let of : y.semaphore ≡ x.0.semaphore = ap (λ (z : Future). z.semaphore) x.2 ∙ staged_semaphore given.stage (among given.who f) x.0 in
+          let n : y.demand ≡ x.0.demand = ap (λ (z : Future). z.demand) x.2 ∙ staged_demand given.stage (among given.who f) x.0 in
+          asked_before f (lives_low f x.0 x.1) ∙ o.asks f x.0 x.1 ∙ (λ k. Some (sym of k, sym n k))
+      | inr new ↦ at_same i f (acquire_in e) (asked r.trace f) (sym new.0) ∙ new.2
+    ];
+    unpolled = λ f y is fresh. same_first f ∙ elim (given.each f y is) [
+      | inl x ↦
+          let stage : (cond (among given.who f) (staged given.stage x.0) x.0).stage ≡ New = ap (λ (z : Future). z.stage) (sym x.2) ∙ fresh in
+          let same = not_staged given.stage (among given.who f) x.0 (λ done. unstaged New (λ no. absurd (cc)) (λ no. absurd (cc)) (sym done ∙ stage)) in
+          o.unpolled f x.0 x.1 (sym same.1 ∙ stage)
+      | inr new ↦ is_absent (first_poll r.trace f) (λ some. absurd (let low = o.names f some in let same = new.0 in omega (arith, low, same, later)))
+    ];
     polled = quiet_polled;
-    waker = quiet_waker;
+    waker = λ f w y is waits. let x = waited f w y is waits in waker_unpolled t r.trace f (quiet f) ∙ o.waker f w x.0 x.1 x.3;
     gone = quiet_gone;
     names = λ f some. let low = o.names f (was_polled f some) in omega (arith, low, later);
     early = λ f j is. let low = o.early f j (sym (same_first f) ∙ is) in omega (arith, low, later);
     ranked = λ s. ranked_alike (rank r.trace) (rank next.trace) (everyone (queue_at next.hall s)) (λ f a. same_rank f) (given.ranked (rank r.trace) o.ranked s);
     late = quiet_late;
-    late_refused = quiet_late_refused;
-    shut = quiet_shut;
+    late_refused = λ g s n asks some has f m apart also was.
+        let old : was_refused r.trace f ≡ true = sym (refused_unpolled t r.trace f (quiet f)) ∙ was in
+        let before : asked r.trace f ≡ Some (s, m) = sym (asked_before f (o.names f (refused_polled r.trace f old))) ∙ also in
+        elim (had_or_waited g s n asks has) [
+          | inl had ↦
+              let less = o.late_refused g s n (sym (asked_before g (o.names g (permits_polled r o g had))) ∙ asks) some had f m apart before old in
+              omega (arith, less, same_rank g, same_rank f)
+          | inr now ↦ absurd (let shut = o.shut f s m before old in let open_still = now.3 in cc)
+        ];
+    shut = λ f s m asks was.
+        let old : was_refused r.trace f ≡ true = sym (refused_unpolled t r.trace f (quiet f)) ∙ was in
+        let low = o.names f (refused_polled r.trace f old) in
+        (tallies r.hall i s (below_later r.hall r.next i later kept.below) e).closed (o.shut f s m (sym (asked_before f low) ∙ asks) old);
   }

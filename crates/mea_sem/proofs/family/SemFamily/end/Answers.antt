@@ -54,20 +54,16 @@ unreachable-requires c =
     semaphore_living (lent c.self.inside c.args.ready.now) c.args.f (kept_lent c.self.inside c.args.ready.now c.self.view_is c.self.invariant c.requires.room) (sym c.remove.ensures.value ∙ c.in-Some.is)
     (sym c.get_mut.ensures.value ∙ ap option_copied_mut c.in_default-get_mut.is)
 
-pub end-requires-clause-belongs : goal.end-requires-clause-belongs
-end-requires-clause-belongs c = (its_belongs (met (goal.at.end-requires-clause-belongs c).In-Some-get_mut)).0
-
-pub end-requires-clause-plain : goal.end-requires-clause-plain
-end-requires-clause-plain c = future_plain (met (goal.at.end-requires-clause-plain c).In-Some-get_mut)
-
-pub end-requires-clause-thing : goal.end-requires-clause-thing
-end-requires-clause-thing c = future_thing (met (goal.at.end-requires-clause-thing c).In-Some-get_mut)
-
-pub end-requires-clause-quiet : goal.end-requires-clause-quiet
-end-requires-clause-quiet c = is_quiet (its_semaphore (met (goal.at.end-requires-clause-quiet c).In-Some-get_mut))
-
-pub end-requires-clause-room : goal.end-requires-clause-room
-end-requires-clause-room c = omega (arith, wakers_registered (its_semaphore (met (goal.at.end-requires-clause-room c).In-Some-get_mut)), (kept_lent c.self.inside c.args.ready.now c.self.view_is c.self.invariant c.requires.room).room)
+pub end-requires : goal.end-requires
+end-requires c =
+    let m = met (goal.at.end-requires c).In-Some-get_mut in
+    record {
+      belongs = (its_belongs m).0;
+      plain = future_plain m;
+      thing = future_thing m;
+      quiet = is_quiet (its_semaphore m);
+      room = omega (arith, wakers_registered (its_semaphore m), (kept_lent c.self.inside c.args.ready.now c.self.view_is c.self.invariant c.requires.room).room);
+    }
 
 pub invariant_of-self-2 : goal.invariant_of-self-2
 invariant_of-self-2 c =

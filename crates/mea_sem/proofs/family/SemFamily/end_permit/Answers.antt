@@ -26,20 +26,16 @@ unreachable-requires c =
     home_living (lent c.self.inside c.args.ready.now) c.args.p (kept_lent c.self.inside c.args.ready.now c.self.view_is c.self.invariant c.requires.room) (sym c.remove.ensures.value ∙ c.in-Some.is)
     (sym c.get_mut.ensures.value ∙ ap option_copied_mut c.in_default-get_mut.is)
 
-pub give_back-requires-clause-held : goal.give_back-requires-clause-held
-give_back-requires-clause-held c = permit_held (met (goal.at.give_back-requires-clause-held c).In-Some-get_mut)
-
-pub give_back-requires-clause-thing : goal.give_back-requires-clause-thing
-give_back-requires-clause-thing c = permit_thing (met (goal.at.give_back-requires-clause-thing c).In-Some-get_mut)
-
-pub give_back-requires-clause-plain : goal.give_back-requires-clause-plain
-give_back-requires-clause-plain c = permit_counted (met (goal.at.give_back-requires-clause-plain c).In-Some-get_mut)
-
-pub give_back-requires-clause-quiet : goal.give_back-requires-clause-quiet
-give_back-requires-clause-quiet c = is_quiet (permits_semaphore (met (goal.at.give_back-requires-clause-quiet c).In-Some-get_mut))
-
-pub give_back-requires-clause-room : goal.give_back-requires-clause-room
-give_back-requires-clause-room c = wakers_fit (permits_semaphore (met (goal.at.give_back-requires-clause-room c).In-Some-get_mut)) c.in-Some.permit.size
+pub give_back-requires : goal.give_back-requires
+give_back-requires c =
+    let m = met (goal.at.give_back-requires c).In-Some-get_mut in
+    record {
+      held = permit_held m;
+      thing = permit_thing m;
+      plain = permit_counted m;
+      quiet = is_quiet (permits_semaphore m);
+      room = wakers_fit (permits_semaphore m) c.in-Some.permit.size;
+    }
 
 pub invariant_of-self-2 : goal.invariant_of-self-2
 invariant_of-self-2 c =

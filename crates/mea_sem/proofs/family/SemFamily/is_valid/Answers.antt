@@ -1,4 +1,4 @@
-use Rattle.std.proofs.Common.{◌≤◌, subst, ap, arith}
+use Rattle.std.proofs.Common.{subst, ap, arith}
 use Rattle.mea_family.specs.Play.{Part}
 use Rattle.mea_sem_model.specs.Hall.{Hall}
 use Rattle.mea_sem_model.specs.Valid.{IsValid}

@@ -25,17 +25,15 @@ unreachable-requires c =
     home_living (alone c.self.inside) c.args.p c.self.invariant (sym c.remove.ensures.value ∙ c.in-Some.is)
     (sym c.get_mut.ensures.value ∙ ap option_copied_mut c.in_default-get_mut.is)
 
-pub lose-requires-clause-held : goal.lose-requires-clause-held
-lose-requires-clause-held c = permit_held (met (goal.at.lose-requires-clause-held c).In-Some-get_mut)
-
-pub lose-requires-clause-thing : goal.lose-requires-clause-thing
-lose-requires-clause-thing c = permit_thing (met (goal.at.lose-requires-clause-thing c).In-Some-get_mut)
-
-pub lose-requires-clause-plain : goal.lose-requires-clause-plain
-lose-requires-clause-plain c = permit_counted (met (goal.at.lose-requires-clause-plain c).In-Some-get_mut)
-
-pub lose-requires-clause-tally : goal.lose-requires-clause-tally
-lose-requires-clause-tally c = tally_fits (met (goal.at.lose-requires-clause-tally c).In-Some-get_mut)
+pub lose-requires : goal.lose-requires
+lose-requires c =
+    let m = met (goal.at.lose-requires c).In-Some-get_mut in
+    record {
+      held = permit_held m;
+      thing = permit_thing m;
+      plain = permit_counted m;
+      tally = tally_fits m;
+    }
 
 pub invariant_of-self-2 : goal.invariant_of-self-2
 invariant_of-self-2 c =

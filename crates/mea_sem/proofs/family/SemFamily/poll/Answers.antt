@@ -1,9 +1,9 @@
-use Rattle.std.proofs.Common.{◌+◌, Some, None, inl, refl, rules, sym, ap, ◌∙◌, arith}
+use Rattle.std.proofs.Common.{inr, ◌+◌, Some, None, inl, refl, rules, sym, ap, ◌∙◌, arith}
 use Rattle.std.specs.Option.{option_copied_mut}
 use Rattle.mea_sem.specs.declared.entries.FutureEntry.{FutureEntry}
 use Rattle.mea_base.proofs.Tests.{on_err}
 use Rattle.mea_sem.proofs.Meets.{registered_in, MeetsFuture, kept_as_futures}
-use Rattle.mea_sem.proofs.Refusals.{future_unknown, lacks_memory}
+use Rattle.mea_sem.proofs.Refusals.{future_unknown, passed}
 use Rattle.mea_base.proofs.NamedMaps.{changes_twice}
 use Rattle.mea_sem.proofs.StandingFutures.{semaphore_living, its_belongs, future_plain, tally_fits, may_poll, forgotten_done, kept_done, refused_done, future_thing}
 use Rattle.mea_sem.proofs.StandingWaits.{queued_done, waited_done, kept_as_found, seen_as_found}
@@ -32,11 +32,8 @@ unreachable-requires c =
     semaphore_living (lent c.self.inside c.args.ready.now) c.args.f (kept_lent c.self.inside c.args.ready.now c.self.view_is c.self.invariant c.requires.room) (sym c.get_mut.ensures.value ∙ ap option_copied_mut c.in-Some.is)
     (sym c.get_mut-2.ensures.value ∙ ap option_copied_mut c.in_default-get_mut.is)
 
-pub is_ready-requires-clause-belongs : goal.is_ready-requires-clause-belongs
-is_ready-requires-clause-belongs c = (its_belongs (met c)).0
-
-pub is_ready-requires-clause-is_open : goal.is_ready-requires-clause-is_open
-is_ready-requires-clause-is_open c = (its_belongs (met c)).1
+pub is_ready-requires : goal.is_ready-requires
+is_ready-requires c = let m = met c in record { belongs = (its_belongs m).0; is_open = (its_belongs m).1 }
 
 -- ---- it is ready, and forgets what it takes
 pub finish_forgetting-requires-clause-plain : goal.finish_forgetting-requires-clause-plain
@@ -77,8 +74,8 @@ invariant_of-self-in_err-insert c = own (kept_as_found (met (goal.at.invariant_o
     (beside (lent c.self.inside c.args.ready.now) _ _ _ ((c.get_mut-2.follows.holds c.in-Some-get_mut.entry.now).3 (search rules)).0) _ (kept_lent c.self.inside c.args.ready.now c.self.view_is c.self.invariant c.requires.room).room)
 
 pub returns-in_err-insert-clause-refused : goal.returns-in_err-insert-clause-refused
-returns-in_err-insert-clause-refused c = lacks_memory c.from_residual.result _ c.from_residual.ensures.1
-    (may_poll (met (goal.at.returns-in_err-insert-clause-refused c).In-Some-get_mut) c.args.waker)
+returns-in_err-insert-clause-refused c = passed c.from_residual.result _ _ c.from_residual.ensures.1
+    (inr ((may_poll (met (goal.at.returns-in_err-insert-clause-refused c).In-Some-get_mut) c.args.waker), refl))
 
 pub returns-in_err-insert-clause-err : goal.returns-in_err-insert-clause-err
 returns-in_err-insert-clause-err c = on_err c.from_residual.result _ (
@@ -145,8 +142,8 @@ invariant_of-self-in_err-queue c =
     (beside (lent c.self.inside c.args.ready.now) _ _ _ ((c.get_mut-2.follows.holds c.queue.new.self).3 (search rules)).0) _ (kept_lent c.self.inside c.args.ready.now c.self.view_is c.self.invariant c.requires.room).room)
 
 pub returns-in_err-queue-clause-refused : goal.returns-in_err-queue-clause-refused
-returns-in_err-queue-clause-refused c = lacks_memory c.from_residual-in_err-queue.result _ c.from_residual-in_err-queue.ensures.1
-    (may_poll (met (goal.at.returns-in_err-queue-clause-refused c).In-Some-get_mut) c.args.waker)
+returns-in_err-queue-clause-refused c = passed c.from_residual-in_err-queue.result _ _ c.from_residual-in_err-queue.ensures.1
+    (inr ((may_poll (met (goal.at.returns-in_err-queue-clause-refused c).In-Some-get_mut) c.args.waker), refl))
 
 pub returns-in_err-queue-clause-err : goal.returns-in_err-queue-clause-err
 returns-in_err-queue-clause-err c =

@@ -72,11 +72,8 @@ unreachable-requires-in_default-get_mut-2 c =
     home_living (alone c.self.inside) c.args.p c.self.invariant (sym c.get_mut.ensures.value ∙ ap option_copied_mut c.in-Some.is)
     (sym c.get_mut-2.ensures.value ∙ ap option_copied_mut c.in_default-get_mut-2.is)
 
-pub count-requires-clause-few_things : goal.count-requires-clause-few_things
-count-requires-clause-few_things c = things_fit (permits_semaphore (met (goal.at.count-requires-clause-few_things c).In-Some-get_mut-2))
-
-pub count-requires-clause-few : goal.count-requires-clause-few
-count-requires-clause-few c = plain_fits (permits_semaphore (met (goal.at.count-requires-clause-few c).In-Some-get_mut-2))
+pub count-requires : goal.count-requires
+count-requires c = let m = met (goal.at.count-requires c).In-Some-get_mut-2 in record { few_things = things_fit (permits_semaphore m); few = plain_fits (permits_semaphore m) }
 
 pub invariant_of-self-2 : goal.invariant_of-self-2
 invariant_of-self-2 c =

@@ -1,8 +1,8 @@
-use Rattle.std.proofs.Common.{Some, inl, refl, rules, sym, ap, ◌∙◌, arith}
+use Rattle.std.proofs.Common.{inr, Some, inl, refl, rules, sym, ap, ◌∙◌, arith}
 use Rattle.std.specs.Option.{option_copied_mut}
 use Rattle.mea_base.proofs.Tests.{on_err}
 use Rattle.mea_sem.proofs.Meets.{MeetsSemaphore}
-use Rattle.mea_sem.proofs.Refusals.{unknown_missing, refuses_first, lacks_memory}
+use Rattle.mea_sem.proofs.Refusals.{unknown_missing, passed}
 use Rattle.mea_sem.proofs.StandingSemaphores.{while_named, once_unnamed, kept_unchanged, seen_unchanged, kept_with_permits, seen_with_permits, plain_fits, things_fit}
 use Rattle.mea_sem.proofs.StandingPermits.{tried, tried_for_nothing}
 use Rattle.mea_sem.proofs.Endings.{living_in, beside}
@@ -56,7 +56,7 @@ returns-clause-played c =
     c.in_ok-insert.ensures.updates.0)))
 
 pub returns-in_err-known-clause-refused : goal.returns-in_err-known-clause-refused
-returns-in_err-known-clause-refused c = refuses_first c.from_residual.result _ _ c.from_residual.ensures.1 (once_unnamed (met (goal.at.returns-in_err-known-clause-refused c).In-Some) _ c.in_err-known.ensures.unknown.0 ∙ ap (λ t. Some t) (sym c.in_err-known.ensures.unknown.1))
+returns-in_err-known-clause-refused c = passed c.from_residual.result _ _ c.from_residual.ensures.1 (inl (once_unnamed (met (goal.at.returns-in_err-known-clause-refused c).In-Some) _ c.in_err-known.ensures.unknown.0 ∙ ap (λ t. Some t) (sym c.in_err-known.ensures.unknown.1)))
 
 pub returns-in_err-known-clause-err : goal.returns-in_err-known-clause-err
 returns-in_err-known-clause-err c = on_err c.from_residual.result _ (ap part_of (seen_unchanged (met (goal.at.returns-in_err-known-clause-err c).In-Some) _ c.in-Some.entry.now
@@ -78,8 +78,8 @@ returns-in_err-insert-clause-err c = on_err c.from_residual-in_err-insert.result
     (beside (alone c.self.inside) _ _ _ ((c.get_mut.follows.holds c.in-Some.entry.now).3 (search rules)).0) _ refl c.in_err-insert.ensures.err))
 
 pub returns-in_err-insert-clause-refused : goal.returns-in_err-insert-clause-refused
-returns-in_err-insert-clause-refused c = lacks_memory c.from_residual-in_err-insert.result _ c.from_residual-in_err-insert.ensures.1
-    (while_named (met (goal.at.returns-in_err-insert-clause-refused c).In-Some) c.in_ok-known.ensures.known)
+returns-in_err-insert-clause-refused c = passed c.from_residual-in_err-insert.result _ _ c.from_residual-in_err-insert.ensures.1
+    (inr ((while_named (met (goal.at.returns-in_err-insert-clause-refused c).In-Some) c.in_ok-known.ensures.known), refl))
 
 pub returns-then-not-offers-clause-allowed : goal.returns-then-not-offers-clause-allowed
 returns-then-not-offers-clause-allowed c = while_named (met (goal.at.returns-then-not-offers-clause-allowed c).In-Some) c.in_ok-known.ensures.known
