@@ -1,15 +1,13 @@
 -- what becomes of bounded channels where a sender or a receiver ends, where a channel, a sender or a send is made, and where a send is polled or ends
-use Rattle.std.proofs.Common.{◌≡◌, ℕ, ◌+◌, ◌-◌, ◌≤◌, ◌==◌, ◌++◌, Bool, true, false, length, [], map, Option, Some, None, option_to_list, is_some, Result, Ok, Err, refl, ap, sym, subst, ◌∙◌, arith, append-nil, if◌then◌else◌, nat_lt, inl, inr}
+use Rattle.std.proofs.Common.{◌≡◌, ℕ, ◌+◌, ◌-◌, ◌≤◌, ◌==◌, ◌++◌, Bool, true, false, length, [], map, Some, None, option_to_list, is_some, Result, Ok, Err, refl, ap, sym, subst, ◌∙◌, arith, append-nil, if◌then◌else◌, inl, inr}
 use Rattle.std.specs.Option.{IsSome}
 use Rattle.std.specs.Ordering.{nat_cmp}
 use Rattle.std.specs.FinMap.{get, insert, remove, len, empty, len-empty}
 use Rattle.mea_family.specs.declared.answer.Answer.{Answer}
 use Rattle.mea_family.specs.declared.answer.Answer.TheVariants as answers
-use Rattle.mea_family.specs.declared.stop.Stop.TheVariants as stops
 use Rattle.mea_family.specs.Family.{Outcome, quietly}
 use Rattle.mea_base.specs.Ready.{Waking}
 use Rattle.std.proofs.lemmas.Bool.{eqb-true, eqb-false}
-use Rattle.std.proofs.lemmas.Bool.Decides.{nat_tests}
 use Rattle.mea_base.specs.Queue.{lacks, waiting_after}
 use Rattle.mea_base.proofs.Queues.{lacks-map}
 use Rattle.mea_base.specs.Totals.{weight}
@@ -21,7 +19,7 @@ use Rattle.mea_by_name.specs.HallKept.{HallKept}
 use Rattle.mea_by_name.specs.NamedQueue.{waits}
 use Rattle.mea_by_name.specs.LackingQueue.{leaving, woken_by}
 use Rattle.mea_family.specs.Play.{Part, PartYields}
-use Rattle.mea_by_name.proofs.Cases.{found_is}
+use Rattle.mea_by_name.proofs.Cases.{found_is, by_if}
 use Rattle.mea_by_name.proofs.Halls as halls
 use Rattle.mea_by_name.proofs.Own.{seen-at, seen-insert, seen-remove, seen-alike, seen-empty, seen-none, own-at, own-none, own-gone, own-put, own-empty, own-nothing, len-gone, len-some, len-new, len-over, insert_same, put_gone, gone_none, Stays, Comes, Goes}
 use Rattle.mea_sem_core.specs.Core.{poured}
@@ -34,18 +32,17 @@ use Rattle.mea_chan_core.specs.Channel.{no_senders}
 use Rattle.mea_base.specs.declared.poll.Poll.TheVariants.{Ready, Pending}
 use Rattle.mea_chan_core.specs.declared.errors.SendError.{SendError}
 use Rattle.mea_chan_core.specs.declared.errors.TrySendError.TheVariants.{Full, Disconnected}
-use Rattle.mea_chan_core.specs.declared.errors.TryRecvError.TheVariants as try
 use Rattle.mea_chan_core.specs.Mailbox as letters_core
 use Rattle.mea_chan_core.specs.Bounded as core
 use Rattle.mea_chan_core.specs.Woken.{IsChannel}
 use Rattle.mea_chan_core.proofs.Senders.{wakes_all}
-use Rattle.mea_chan_model.specs.Mailboxes as mailboxes
 use Rattle.mea_chan_model.specs.Mailboxes.{is_channel}
 use Rattle.mea_chan_model.specs.MailboxActions as actions
 use Rattle.mea_chan_model.specs.MailboxActions.{act_in}
 use Rattle.mea_chan_model.specs.Bounded as model
 use Rattle.mea_chan_model.specs.Bounded.{Bounded, Room, registered, is_full}
-use Rattle.mea_chan_model.specs.BoundedActions.{MakeRoom, BeginSend, PollSend, EndSend, DropSender, DropReceiver, bounded_act, bounded_cause}
+use Rattle.mea_chan_model.specs.declared.bounded_action.BoundedAction.TheVariants.{MakeRoom, BeginSend, PollSend, EndSend, DropSender, DropReceiver}
+use Rattle.mea_chan_model.specs.BoundedActions.{bounded_act, bounded_cause}
 use Rattle.mea_cores_by_name.specs.Linked.{names_in, who_of, IsHome, Linked}
 use Rattle.mea_chan.specs.declared.receiver_entry.ReceiverEntry.{ReceiverEntry}
 use Rattle.mea_chan.specs.declared.sender_entry.SenderEntry.{SenderEntry}
@@ -54,10 +51,12 @@ use Rattle.mea_chan.specs.Entries.{told}
 use Rattle.mea_chan.specs.BoundedCores.{NamedChannel, KeptSend, as_mailbox, kept_by, handed_on, HandsOn, SendPolled, ready_told}
 use Rattle.mea_chan.specs.BoundedParts.{room_seen, send_seen, was_polled, value_of, channel_of_sender, bounded_seen, acquires_of, AreLinked, AreCounted, IsKeptBounded, of_channel, of_sender, itself}
 use Rattle.mea_chan.specs.MailboxParts.{channel_seen, receiver_seen, mailboxes_seen, AreKept, of_receiver, of_sender as mine}
-use Rattle.mea_chan.proofs.BoundedSteps.{made, grants_linked, grants_seen, grants_woken, its_belongs, Ended, ends, left, joins}
+use Rattle.mea_chan.proofs.BoundedSteps.{made, grants_linked, grants_seen, grants_woken, Ended, ends, left, joins}
 use Rattle.mea_chan.proofs.OneChannel as one
 use Rattle.mea_chan.proofs.MailboxEvents as mail
-use Rattle.mea_chan.proofs.BoundedEvents.{BoundedSite, ends_is, part_of, kept_in, woken_of, woken_both, none_seen, over_none, keeps_none, no_value, left_capacity, joined_capacity, letters, before_it, yields_as, senders_channel, sends_sender, seen_there, its_quiet, its_linked, kept_now, links_stay, from_rests, from_yields, counts_rest, rooms_at, woken_at, same_rooms, full_is, some_sender, no_sender, not_new}
+use Rattle.mea_family.proofs.Refusals.{not_borrowed}
+use Rattle.mea_chan_model.proofs.EnoughEvents.{left_capacity, joined_capacity}
+use Rattle.mea_chan.proofs.BoundedEvents.{BoundedSite, ends_is, part_of, Yields, kept_in, woken_of, woken_both, none_seen, over_none, keeps_none, letters, before_it, yields_as, senders_channel, sends_sender, seen_there, its_quiet, its_linked, kept_now, links_stay, from_rests, from_yields, counts_rest, rooms_at, woken_at, same_rooms, full_is, some_sender, no_sender, not_new}
 
 module _ {old : Part Bounded} {i : ℕ} (s : BoundedSite old i) where
   -- ---- a channel is this now, or gone where that is over
@@ -106,11 +105,9 @@ module _ {old : Part Bounded} {i : ℕ} (s : BoundedSite old i) where
 
     -- its sends are none
     none_of_it : bounded_cause old.hall (DropSender k) ≡ None → len (own of_sender k s.xs) ≡ 0
-    none_of_it allowed = none (nat_lt 0 y.sends) refl (ends_is s.cs s.ss s.rs s.xs s.next s.view k y sender (s.kept.counted.each k y sender).sends ∙ allowed)
-      where
-        none : (b : Bool) → nat_lt 0 y.sends ≡ b → (if b then Some stops.Borrowed else None) ≡ None → len (own of_sender k s.xs) ≡ 0
-        none true is says = absurd (cc)
-        none false is says = let few : y.sends ≡ 0 = grind (arith, nat_tests, is) in omega (arith, few, (s.kept.counted.each k y sender).sends)
+    none_of_it allowed =
+        let few = not_borrowed true y.sends (ends_is s.cs s.ss s.rs s.xs s.next s.view k y sender (s.kept.counted.each k y sender).sends ∙ allowed) in
+        omega (arith, few, (s.kept.counted.each k y sender).sends)
 
     without_is : as_mailbox (handed_on (core.without_sender c)) ≡ record (letters_core.without_sender of_it) { wakes = [] }
     without_is = at (c.senders == 1)
@@ -129,18 +126,10 @@ module _ {old : Part Bounded} {i : ℕ} (s : BoundedSite old i) where
         at false = refl
 
     same_waiting : (core.without_sender c).waiting ≡ c.waiting
-    same_waiting = at (c.senders == 1)
-      where
-        at : (b : Bool) → (if b then record c { senders = 0; waker = None; wakes = c.wakes ++ option_to_list c.waker } else record c { senders = c.senders - 1 }).waiting ≡ c.waiting
-        at true = refl
-        at false = refl
+    same_waiting = by_if (λ (d : NamedChannel). d.waiting ≡ c.waiting) (c.senders == 1) _ _ (λ one. refl) (λ more. refl)
 
     same_capacity : (core.without_sender c).capacity ≡ c.capacity
-    same_capacity = at (c.senders == 1)
-      where
-        at : (b : Bool) → (if b then record c { senders = 0; waker = None; wakes = c.wakes ++ option_to_list c.waker } else record c { senders = c.senders - 1 }).capacity ≡ c.capacity
-        at true = refl
-        at false = refl
+    same_capacity = by_if (λ (d : NamedChannel). d.capacity ≡ c.capacity) (c.senders == 1) _ _ (λ one. refl) (λ more. refl)
 
     -- where no sender is left, its waker was taken
     no_waker_left : (core.without_sender c).senders ≡ 0 → (core.without_sender c).waker ≡ None
@@ -152,11 +141,8 @@ module _ {old : Part Bounded} {i : ℕ} (s : BoundedSite old i) where
         at false is none = absurd (let some = (some_sender s) k y c sender there in let apart = eqb-false c.senders 1 is in omega (arith, some, apart, none))
 
     one_sender : (core.without_sender c).senders ≡ 0 → c.senders ≡ 1
-    one_sender = at (c.senders == 1) refl
-      where
-        at : (b : Bool) → (c.senders == 1) ≡ b → (if b then record c { senders = 0; waker = None; wakes = c.wakes ++ option_to_list c.waker } else record c { senders = c.senders - 1 }).senders ≡ 0 → c.senders ≡ 1
-        at true is none = eqb-true c.senders 1 is
-        at false is none = absurd (let some = (some_sender s) k y c sender there in let apart = eqb-false c.senders 1 is in omega (arith, some, apart, none))
+    one_sender = elim (c.senders == 1) as (λ b. (c.senders == 1) ≡ b → (if b then record c { senders = 0; waker = None; wakes = c.wakes ++ option_to_list c.waker } else record c { senders = c.senders - 1 }).senders ≡ 0 → c.senders ≡ 1)
+        [ true ↦ λ is none. eqb-true c.senders 1 is | false ↦ λ is none. absurd (let some = (some_sender s) k y c sender there in let apart = eqb-false c.senders 1 is in omega (arith, some, apart, none)) ] refl
 
     sends_gone : bounded_cause old.hall (DropSender k) ≡ None → (core.without_sender c).senders ≡ 0 → len (own of_channel y.channel s.xs) ≡ 0
     sends_gone allowed none = no_sends_of y.channel (remove s.ss k)
@@ -168,8 +154,7 @@ module _ {old : Part Bounded} {i : ℕ} (s : BoundedSite old i) where
         (z.0, get-removed_other s.ss k x.sender (λ is. own-nothing of_sender k s.xs (none_of_it allowed) f x here is) ∙ z.1, s.kept.alike f x z.0 here z.1 ∙ same))
 
     pub sender_ended : (c' : NamedChannel) (ss' : Names SenderEntry) (over : Bool) (before after : Waking ℕ) → IsChannel c → bounded_cause old.hall (DropSender k) ≡ None → ss' ≡ remove s.ss k → is_over (as_mailbox c') ≡ over → HandsOn c (core.without_sender c) c' before after
-        → IsKeptBounded (if over then remove (insert s.cs y.channel c') y.channel else insert s.cs y.channel c') ss' s.rs s.xs (i + 1)
-        × PartYields registered old i (bounded_act old.hall i (DropSender k)) answers.Done (part_of (if over then remove (insert s.cs y.channel c') y.channel else insert s.cs y.channel c') ss' s.rs s.xs (i + 1)) before after
+        → Yields s (DropSender k) answers.Done (if over then remove (insert s.cs y.channel c') y.channel else insert s.cs y.channel c') ss' s.rs s.xs before after
     sender_ended c' ss' over before after is allowed gone is_it hands =
         let now : is_over (as_mailbox (handed_on (core.without_sender c))) ≡ over = ap (λ c. is_over (as_mailbox c)) (sym hands.entry) ∙ is_it in
         let all = mail.sender_ended (letters s) k y.channel of_it (seen-at channel_of_sender s.ss k y sender) ((seen_there s) y.channel c there) (as_mailbox (handed_on (core.without_sender c)))
@@ -198,8 +183,7 @@ module _ {old : Part Bounded} {i : ℕ} (s : BoundedSite old i) where
   -- ---- a receiver ends
   module _ (r : ℕ) (x : ReceiverEntry) (c : NamedChannel) (receiver : get s.rs r ≡ Some x) (there : get s.cs x.channel ≡ Some c) where
     pub receiver_ended : (c' : NamedChannel) (rs' : Names ReceiverEntry) (over : Bool) (before after : Waking ℕ) → IsChannel c → rs' ≡ remove s.rs r → is_over (as_mailbox c') ≡ over → HandsOn c (core.without_receiver c) c' before after
-        → IsKeptBounded (if over then remove (insert s.cs x.channel c') x.channel else insert s.cs x.channel c') s.ss rs' s.xs (i + 1)
-        × PartYields registered old i (bounded_act old.hall i (DropReceiver r)) answers.Done (part_of (if over then remove (insert s.cs x.channel c') x.channel else insert s.cs x.channel c') s.ss rs' s.xs (i + 1)) before after
+        → Yields s (DropReceiver r) answers.Done (if over then remove (insert s.cs x.channel c') x.channel else insert s.cs x.channel c') s.ss rs' s.xs before after
     receiver_ended c' rs' over before after is gone is_it hands =
         let quiet = (its_quiet s) x.channel c there in
         let own_it = (mail.its_kept (letters s) x.channel (as_mailbox c) ((seen_there s) x.channel c there)) in
@@ -262,8 +246,7 @@ module _ {old : Part Bounded} {i : ℕ} (s : BoundedSite old i) where
     abbrev first_receiver : ReceiverEntry
     first_receiver = record { channel = i; polls = true }
 
-    pub made_room : (w : Waking ℕ) → IsKeptBounded (insert s.cs i fresh) (insert s.ss i first_sender) (insert s.rs i first_receiver) s.xs (i + 1)
-        × PartYields registered old i (bounded_act old.hall i (MakeRoom n)) answers.Made (part_of (insert s.cs i fresh) (insert s.ss i first_sender) (insert s.rs i first_receiver) s.xs (i + 1)) w w
+    pub made_room : (w : Waking ℕ) → Yields s (MakeRoom n) answers.Made (insert s.cs i fresh) (insert s.ss i first_sender) (insert s.rs i first_receiver) s.xs w w
     made_room w =
         let all = mail.made (letters s) true in
         let m = (from_rests s) (actions.Make true) answers.Made (insert s.cs i fresh) (insert s.ss i first_sender) (insert s.rs i first_receiver) _ _ (seen-insert as_mailbox s.cs i fresh) (seen-insert channel_of_sender s.ss i first_sender) all.0 all.1 in
@@ -311,7 +294,7 @@ module _ {old : Part Bounded} {i : ℕ} (s : BoundedSite old i) where
     looked_at = rw (insert_same s.ss k y sender) (s.kept, s.view)
 
     pub begun : (v : ℕ) (xs' : Names KeptSend) (w : Waking ℕ) → xs' ≡ insert s.xs i (newcomer v)
-        → IsKeptBounded s.cs (insert s.ss k one_more) s.rs xs' (i + 1) × PartYields registered old i (bounded_act old.hall i (BeginSend k v)) answers.Made (part_of s.cs (insert s.ss k one_more) s.rs xs' (i + 1)) w w
+        → Yields s (BeginSend k v) answers.Made s.cs (insert s.ss k one_more) s.rs xs' w w
     begun v xs' w is =
         let c = value_in (get s.cs y.channel) ((senders_channel s) k y sender) in
         let alike = seen-alike channel_of_sender s.ss k y one_more sender refl in
@@ -381,8 +364,7 @@ module _ {old : Part Bounded} {i : ℕ} (s : BoundedSite old i) where
 
     -- ---- it ends
     pub send_ended : (c' : NamedChannel) (before after : Waking ℕ) → (d : NamedChannel) → core.EndsSend c x.acquire d → HandsOn c d c' before after
-        → IsKeptBounded (insert s.cs x.channel c') (insert s.ss x.sender one_less) s.rs (remove s.xs f) (i + 1)
-        × PartYields registered old i (bounded_act old.hall i (EndSend f)) answers.Done (part_of (insert s.cs x.channel c') (insert s.ss x.sender one_less) s.rs (remove s.xs f) (i + 1)) before after
+        → Yields s (EndSend f) answers.Done (insert s.cs x.channel c') (insert s.ss x.sender one_less) s.rs (remove s.xs f) before after
     send_ended c' before after d (q, cancels, left) hands = rw entry (
       record { mail = rw (mails, senders_alike) (mail.rests (letters s)); linked = gone_links (handed_on (core.with_waiting c q)) it.links; counted = gone_counts; alike = gone_alike },
       elim it.seen [
@@ -436,8 +418,7 @@ module _ {old : Part Bounded} {i : ℕ} (s : BoundedSite old i) where
     -- it had its answer
     answered : (c' : NamedChannel) (x' : KeptSend) (answer : Answer) (before after : Waking ℕ) (w v : ℕ) (d left : NamedChannel) → x.value ≡ Some v → is_full (before_it s) x.channel ≡ false → core.Leaves d x.acquire left → d.waiting ≡ c.waiting → d.capacity ≡ c.capacity
         → as_mailbox (handed_on d) ≡ record (message_sent (as_mailbox c) v) { wakes = [] } → map (λ (k : NamedWaker). k.waker) d.wakes ≡ (message_sent (as_mailbox c) v).wakes → answer ≡ (if sent_answer (as_mailbox c) then answers.Accepted else answers.Closed v) → HandsOn c left c' before after
-        → IsKeptBounded (insert s.cs x.channel c') (insert s.ss x.sender one_less) s.rs (remove (insert s.xs f x') f) (i + 1)
-        × PartYields registered old i (bounded_act old.hall i (PollSend f w)) answer (part_of (insert s.cs x.channel c') (insert s.ss x.sender one_less) s.rs (remove (insert s.xs f x') f) (i + 1)) before after
+        → Yields s (PollSend f w) answer (insert s.cs x.channel c') (insert s.ss x.sender one_less) s.rs (remove (insert s.xs f x') f) before after
     answered c' x' answer before after w v d l value placed (q, loses, leaves) still capacity is_mail woken says hands =
         let same : y.channel ≡ x.channel = s.kept.alike f x y send sender in
         let gone = left c (own of_channel x.channel s.xs) links_of_it.linked is f x mine_is q (rw still at loses) in
@@ -461,8 +442,7 @@ module _ {old : Part Bounded} {i : ℕ} (s : BoundedSite old i) where
     -- it waits on, or goes to the end of the queue
     pended : {R : Type 0} (turn : R) (c' : NamedChannel) (x' : KeptSend) (before after : Waking ℕ) (w v : ℕ) (left : NamedChannel) → x.value ≡ Some v → x'.value ≡ Some v → demand_of x'.acquire ≡ 1 → x' ≡ record x { value = x'.value; acquire = x'.acquire }
         → is_full (before_it s) x.channel ≡ true → core.StaysPending {R = R} c x.acquire (record { future = f; waker = w }) (Ok turn) left x'.acquire → HandsOn c left c' before after
-        → IsKeptBounded (insert s.cs x.channel c') s.ss s.rs (insert s.xs f x') (i + 1)
-        × PartYields registered old i (bounded_act old.hall i (PollSend f w)) answers.Pending (part_of (insert s.cs x.channel c') s.ss s.rs (insert s.xs f x') (i + 1)) before after
+        → Yields s (PollSend f w) answers.Pending (insert s.cs x.channel c') s.ss s.rs (insert s.xs f x') before after
     pended turn c' x' before after w v l value value' ones same full stays hands =
         let it = joins c (own of_channel x.channel s.xs) links_of_it.linked is f x mine_is w turn l x'.acquire stays in
         let again : x' ≡ record x { acquire = x'.acquire } = same ∙ (λ j. record x { value = (value' ∙ sym value) j; acquire = x'.acquire }) in
@@ -505,16 +485,12 @@ module _ {old : Part Bounded} {i : ℕ} (s : BoundedSite old i) where
 
     module _ (w : ℕ) (c' : NamedChannel) (x' : KeptSend) (before after : Waking ℕ) where
       pub ready_polled : (r : Result (Unit {0}) (SendError ℕ)) (answer : Answer) → answer ≡ ready_told r → SendPolled c x (record { future = f; waker = w }) (Ready r) c' x' before after
-          → IsKeptBounded (insert s.cs x.channel c') (insert s.ss x.sender one_less) s.rs (remove (insert s.xs f x') f) (i + 1)
-          × PartYields registered old i (bounded_act old.hall i (PollSend f w)) answer (part_of (insert s.cs x.channel c') (insert s.ss x.sender one_less) s.rs (remove (insert s.xs f x') f) (i + 1)) before after
-      ready_polled r answer says polled = by_value x.value refl (links_of_it.valued f x mine_is) polled.polls
+          → Yields s (PollSend f w) answer (insert s.cs x.channel c') (insert s.ss x.sender one_less) s.rs (remove (insert s.xs f x') f) before after
+      ready_polled r answer says polled = let it = value_in x.value (links_of_it.valued f x mine_is) in by_answer it.0 it.1 c.ended (length c.queued == c.capacity) refl refl (rw it.1 at polled.polls)
         where
-          Done : Type 0
-          Done = IsKeptBounded (insert s.cs x.channel c') (insert s.ss x.sender one_less) s.rs (remove (insert s.xs f x') f) (i + 1)
-              × PartYields registered old i (bounded_act old.hall i (PollSend f w)) answer (part_of (insert s.cs x.channel c') (insert s.ss x.sender one_less) s.rs (remove (insert s.xs f x') f) (i + 1)) before after
-
           by_answer : (v : ℕ) → x.value ≡ Some v → (ended full : Bool) → c.ended ≡ ended → (length c.queued == c.capacity) ≡ full
-              → core.PollsValue c v (if ended then Err (Disconnected v) else if full then Err (Full v) else Ok tt) x.acquire (record { future = f; waker = w }) (Ok (Ready r)) polled.left x'.value x'.acquire → Done
+              → core.PollsValue c v (if ended then Err (Disconnected v) else if full then Err (Full v) else Ok tt) x.acquire (record { future = f; waker = w }) (Ok (Ready r)) polled.left x'.value x'.acquire
+              → Yields s (PollSend f w) answer (insert s.cs x.channel c') (insert s.ss x.sender one_less) s.rs (remove (insert s.xs f x') f) before after
           by_answer v value true full is_ended is_it polls =
               let told : r ≡ Err (record { 0 = v }) = (let both = polls.0 in cc) in
               answered c' x' answer before after w v c polled.left value (full_by true full is_ended is_it) polls.2 refl refl
@@ -525,25 +501,13 @@ module _ {old : Part Bounded} {i : ℕ} (s : BoundedSite old i) where
               answered c' x' answer before after w v (core.with_message c v) polled.left value (full_by false false is_ended is_it) polls.2 refl refl
               (rw is_ended refl) (rw is_ended (woken_of c.waker c.wakes ((its_quiet s) x.channel c there))) (says ∙ ap ready_told told ∙ rw is_ended refl) polled.settles
 
-          by_value : (value : Option ℕ) → x.value ≡ value → IsSome x.value → core.PollsSend c x.value x.acquire (record { future = f; waker = w }) (Ok (Ready r)) polled.left x'.value x'.acquire → Done
-          by_value None none some polls = absurd (no_value x.value none some)
-          by_value (Some v) value some polls = by_answer v value c.ended (length c.queued == c.capacity) refl refl (rw value at polls)
-
       pub pending_polled : SendPolled c x (record { future = f; waker = w }) Pending c' x' before after
-          → IsKeptBounded (insert s.cs x.channel c') s.ss s.rs (insert s.xs f x') (i + 1)
-          × PartYields registered old i (bounded_act old.hall i (PollSend f w)) answers.Pending (part_of (insert s.cs x.channel c') s.ss s.rs (insert s.xs f x') (i + 1)) before after
-      pending_polled polled = by_value x.value refl (links_of_it.valued f x mine_is) polled.polls
+          → Yields s (PollSend f w) answers.Pending (insert s.cs x.channel c') s.ss s.rs (insert s.xs f x') before after
+      pending_polled polled = let it = value_in x.value (links_of_it.valued f x mine_is) in by_answer it.0 it.1 c.ended (length c.queued == c.capacity) refl refl (rw it.1 at polled.polls)
         where
-          Done : Type 0
-          Done = IsKeptBounded (insert s.cs x.channel c') s.ss s.rs (insert s.xs f x') (i + 1)
-              × PartYields registered old i (bounded_act old.hall i (PollSend f w)) answers.Pending (part_of (insert s.cs x.channel c') s.ss s.rs (insert s.xs f x') (i + 1)) before after
-
           by_answer : (v : ℕ) → x.value ≡ Some v → (ended full : Bool) → c.ended ≡ ended → (length c.queued == c.capacity) ≡ full
-              → core.PollsValue c v (if ended then Err (Disconnected v) else if full then Err (Full v) else Ok tt) x.acquire (record { future = f; waker = w }) (Ok Pending) polled.left x'.value x'.acquire → Done
+              → core.PollsValue c v (if ended then Err (Disconnected v) else if full then Err (Full v) else Ok tt) x.acquire (record { future = f; waker = w }) (Ok Pending) polled.left x'.value x'.acquire
+              → Yields s (PollSend f w) answers.Pending (insert s.cs x.channel c') s.ss s.rs (insert s.xs f x') before after
           by_answer v value true full is_ended is_it polls = absurd (let ready = polls.0 in cc)
           by_answer v value false true is_ended is_it polls = pended Pending c' x' before after w v polled.left value polls.1 polled.one polled.same (full_by false true is_ended is_it) polls.2 polled.settles
           by_answer v value false false is_ended is_it polls = absurd (let ready = polls.0 in cc)
-
-          by_value : (value : Option ℕ) → x.value ≡ value → IsSome x.value → core.PollsSend c x.value x.acquire (record { future = f; waker = w }) (Ok Pending) polled.left x'.value x'.acquire → Done
-          by_value None none some polls = absurd (no_value x.value none some)
-          by_value (Some v) value some polls = by_answer v value c.ended (length c.queued == c.capacity) refl refl (rw value at polls)

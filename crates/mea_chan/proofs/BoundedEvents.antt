@@ -8,7 +8,7 @@ use Rattle.mea_family.specs.declared.answer.Answer.TheVariants as answers
 use Rattle.mea_family.specs.declared.stop.Stop.TheVariants as stops
 use Rattle.mea_family.specs.Family.{Outcome, quietly}
 use Rattle.mea_base.specs.Ready.{Waking}
-use Rattle.std.proofs.lemmas.Bool.{eqb-true, eq-eqb}
+use Rattle.std.proofs.lemmas.Bool.{eq-eqb}
 use Rattle.mea_base.specs.Totals.{total, weight}
 use Rattle.mea_base.proofs.Maps.{by_put, total-has, nothing_at, get-there, is_there}
 use Rattle.mea_base.proofs.Totals.{total-insert, total-plus, total-alike}
@@ -19,13 +19,13 @@ use Rattle.mea_by_name.specs.HallKept.{HallKept}
 use Rattle.mea_by_name.specs.NamedQueue.{waits}
 use Rattle.mea_by_name.specs.LackingQueue.{who}
 use Rattle.mea_family.specs.Play.{Part, PartYields, PartRests, found}
-use Rattle.mea_by_name.proofs.Cases.{found_is, by_if, if_true, if_false}
+use Rattle.mea_by_name.proofs.Cases.{found_is, if_true, if_false}
 use Rattle.mea_by_name.proofs.Halls as halls
 use Rattle.mea_by_name.proofs.LackingQueues.{length-who}
 use Rattle.mea_by_name.proofs.Own.{seen-at, seen-back, seen-insert, seen-alike, total-seen, seen-empty, own-seen, len-seen, len-some, insert_same, Stays}
 use Rattle.mea_sem_core.specs.Core.{Waiter, Acquires, Owes}
 use Rattle.mea_sem_core.specs.Ones.{AskForOne}
-use Rattle.mea_sem_core.specs.declared.acquire.Acquire.TheVariants.{Queued, Done}
+use Rattle.mea_sem_core.specs.declared.acquire.Acquire.TheVariants.{Queued}
 use Rattle.mea_chan_core.specs.declared.errors.TrySendError.TheVariants.{Full, Disconnected}
 use Rattle.mea_chan_core.specs.declared.errors.TryRecvError.{TryRecvError}
 use Rattle.mea_chan_core.specs.declared.errors.TryRecvError.TheVariants as try
@@ -38,9 +38,12 @@ use Rattle.mea_chan_model.specs.MailboxActions as actions
 use Rattle.mea_chan_model.specs.MailboxActions.{Action, act_in}
 use Rattle.mea_chan_model.specs.Bounded as model
 use Rattle.mea_chan_model.specs.Bounded.{Bounded, Room, BoundedSend, registered, is_full, is_send, no_bounded}
-use Rattle.mea_chan_model.specs.BoundedActions.{BoundedAction, CopySender, TrySend, TryReceive, PollReceive, DropSender, bounded_act, bounded_cause}
+use Rattle.mea_chan_model.specs.declared.bounded_action.BoundedAction.{BoundedAction}
+use Rattle.mea_chan_model.specs.declared.bounded_action.BoundedAction.TheVariants.{CopySender, TrySend, TryReceive, PollReceive, DropSender}
+use Rattle.mea_chan_model.specs.BoundedActions.{bounded_act, bounded_cause}
 use Rattle.mea_chan_model.specs.Sends.{granted_at, granted_of, queue_in}
 use Rattle.mea_chan_model.specs.Valid.{AreValid}
+use Rattle.mea_chan_model.proofs.Acting.{known_but}
 use Rattle.mea_cores_by_name.specs.Linked.{names_in, AreOf, Linked}
 use Rattle.mea_chan.specs.declared.receiver_entry.ReceiverEntry.{ReceiverEntry}
 use Rattle.mea_chan.specs.declared.sender_entry.SenderEntry.{SenderEntry}
@@ -164,11 +167,7 @@ none_seen (Some k) is = absurd (cc)
 
 -- a channel that is over has no sender
 pub over_none : (c : NamedChannel) → is_over (as_mailbox c) ≡ true → c.senders ≡ 0
-over_none c = at c.ended
-  where
-    at : (b : Bool) → (if b then c.senders == 0 else false) ≡ true → c.senders ≡ 0
-    at true is = eqb-true c.senders 0 is
-    at false is = absurd (cc)
+over_none c is = (one.over_is (as_mailbox c) is).1
 
 -- where there is neither a waker nor a send, nothing is kept
 pub keeps_none : (c : NamedChannel) (xs : Names KeptSend) → c.waker ≡ None → AskForOne c.waiting.queue → Linked c.waiting.queue c.waiting.granted (acquires_of xs) → len xs ≡ 0 → kept_by c ≡ 0
@@ -181,16 +180,6 @@ keeps_none c xs no_waker ones linked none =
     nobody [] ones are = refl
     nobody ((Acquires n d k, l) ∷ q) ones are = absurd (let one = seen-back (λ (x : KeptSend). x.acquire) xs k.future (Queued d n) are.0 in let some = len-some xs k.future one.0 one.1 in omega (arith, some, none))
     nobody ((Owes, l) ∷ q) ones are = absurd ones
-
-pub no_value : (o : Option ℕ) → o ≡ None → IsSome o → ⊥
-no_value None none some = absurd (cc)
-no_value (Some v) none some = absurd (cc)
-
-pub left_capacity : (f : ℕ) (r : Room) → (model.left_by f r).capacity ≡ r.capacity
-left_capacity f r = by_if (λ (d : Room). d.capacity ≡ r.capacity) (waits (model.waiting_at r) f) _ r (λ waits. refl) (λ other. refl)
-
-pub joined_capacity : (f w : ℕ) (r : Room) → (model.joined f w r).capacity ≡ r.capacity
-joined_capacity f w r = by_if (λ (d : Room). d.capacity ≡ r.capacity) (waits (model.waiting_at r) f) _ _ (λ waits. refl) (λ other. refl)
 
 -- the channel of a sender is there
 pub site_channel : {cs : Names NamedChannel} {ss : Names SenderEntry} {rs : Names ReceiverEntry} {xs : Names KeptSend} {next : ℕ} → IsKeptBounded cs ss rs xs next → (k : ℕ) (y : SenderEntry) → get ss k ≡ Some y → IsSome (get cs y.channel)
@@ -233,12 +222,13 @@ module _ {old : Part Bounded} {i : ℕ} (s : BoundedSite old i) where
         omega (arith, waiting, now, was);
   }))
 
+  -- these maps are kept, and are what the event leaves
+  abbrev pub Yields : BoundedAction → Answer → Names NamedChannel → Names SenderEntry → Names ReceiverEntry → Names KeptSend → Waking ℕ → Waking ℕ → Type 0
+  Yields b answer cs' ss' rs' xs' before after = IsKeptBounded cs' ss' rs' xs' (i + 1) × PartYields registered old i (bounded_act old.hall i b) answer (part_of cs' ss' rs' xs' (i + 1)) before after
+
   -- ---- what is there
   pub sender_there : (k : ℕ) → is_sender old.hall.mail k ≡ true → IsSome (get s.ss k)
   sender_there k is = sender_is s.cs s.ss s.rs s.xs s.next s.view k (get s.ss k) refl ∙ is
-
-  pub receiver_there : (r : ℕ) → is_receiver old.hall.mail r true ≡ true → IsSome (get s.rs r)
-  receiver_there r is = mail.receiver_there letters r true (ap (λ (p : Part Bounded). is_receiver p.hall.mail r true) s.view ∙ is)
 
   -- the channel of a sender, of a receiver and of a send
   pub senders_channel : (k : ℕ) (y : SenderEntry) → get s.ss k ≡ Some y → IsSome (get s.cs y.channel)
@@ -265,18 +255,10 @@ module _ {old : Part Bounded} {i : ℕ} (s : BoundedSite old i) where
       at (Some z) none some = absurd (cc)
 
   pub copier_there : (k : ℕ) → bounded_cause old.hall (CopySender k) ≡ None → IsSome (get s.ss k)
-  copier_there k allowed = sender_there k (at (is_sender old.hall.mail k) refl allowed)
-    where
-      at : (b : Bool) → is_sender old.hall.mail k ≡ b → (if b then (if mailboxes.senders_beside old.hall.mail k == actions.most_senders then Some stops.Overflow else None) else Some stops.Unknown) ≡ None → is_sender old.hall.mail k ≡ true
-      at true is says = is
-      at false is says = absurd (cc)
+  copier_there k allowed = sender_there k (known_but (is_sender old.hall.mail k) (mailboxes.senders_beside old.hall.mail k == actions.most_senders) stops.Overflow allowed)
 
   pub ender_there : (k : ℕ) → bounded_cause old.hall (DropSender k) ≡ None → IsSome (get s.ss k)
-  ender_there k allowed = sender_there k (at (is_sender old.hall.mail k) refl allowed)
-    where
-      at : (b : Bool) → is_sender old.hall.mail k ≡ b → (if b then (if nat_lt 0 (model.sends_of old.hall k) then Some stops.Borrowed else None) else Some stops.Unknown) ≡ None → is_sender old.hall.mail k ≡ true
-      at true is says = is
-      at false is says = absurd (cc)
+  ender_there k allowed = sender_there k (known_but (is_sender old.hall.mail k) (nat_lt 0 (model.sends_of old.hall k)) stops.Borrowed allowed)
 
   -- ---- a channel
   module _ (o : ℕ) (c : NamedChannel) (there : get s.cs o ≡ Some c) where
@@ -392,8 +374,7 @@ module _ {old : Part Bounded} {i : ℕ} (s : BoundedSite old i) where
 
     -- a sender copies itself
     pub copied : (ss' : Names SenderEntry) (w : Waking ℕ) → ss' ≡ insert s.ss i (record { channel = y.channel; sends = 0 })
-        → IsKeptBounded (insert s.cs y.channel (record c { senders = c.senders + 1 })) ss' s.rs s.xs (i + 1)
-        × PartYields registered old i (bounded_act old.hall i (CopySender k)) answers.Made (part_of (insert s.cs y.channel (record c { senders = c.senders + 1 })) ss' s.rs s.xs (i + 1)) w w
+        → Yields (CopySender k) answers.Made (insert s.cs y.channel (record c { senders = c.senders + 1 })) ss' s.rs s.xs w w
     copied ss' w is =
         let all = mail.copied letters k y.channel letter its_sender (seen_there y.channel c there) (insert (seen channel_of_sender s.ss) i y.channel) refl in
         let m = from_rests (actions.Copy k) answers.Made (insert s.cs y.channel (record c { senders = c.senders + 1 })) (insert s.ss i (record { channel = y.channel; sends = 0 })) s.rs _ _
@@ -414,14 +395,11 @@ module _ {old : Part Bounded} {i : ℕ} (s : BoundedSite old i) where
 
     -- a message is tried
     pub tried : (v : ℕ) (c' : NamedChannel) (answer : Answer) (before after : Waking ℕ) → answer ≡ tried_told (core.send_answer c v) → HandsOn c (core.after_send c v) c' before after
-        → IsKeptBounded (insert s.cs y.channel c') s.ss s.rs s.xs (i + 1) × PartYields registered old i (bounded_act old.hall i (TrySend k v)) answer (part_of (insert s.cs y.channel c') s.ss s.rs s.xs (i + 1)) before after
+        → Yields (TrySend k v) answer (insert s.cs y.channel c') s.ss s.rs s.xs before after
     tried v c' answer before after says hands = at c.ended (length c.queued == c.capacity) refl refl
       where
         o : ℕ
         o = y.channel
-
-        Done : Type 0
-        Done = IsKeptBounded (insert s.cs y.channel c') s.ss s.rs s.xs (i + 1) × PartYields registered old i (bounded_act old.hall i (TrySend k v)) answer (part_of (insert s.cs y.channel c') s.ss s.rs s.xs (i + 1)) before after
 
         acted : (b : Bool) → (if c.ended then false else length c.queued == c.capacity) ≡ b → bounded_act before_it i (TrySend k v) ≡ (if b then quietly before_it (answers.Full v) else model.in_mail before_it (act_in before_it.mail i (actions.Send k v)))
         acted b is = found_sender (λ o. if is_full before_it o then quietly before_it (answers.Full v) else model.in_mail before_it (act_in before_it.mail i (actions.Send k v)))
@@ -429,7 +407,7 @@ module _ {old : Part Bounded} {i : ℕ} (s : BoundedSite old i) where
 
         -- it is as with any mailbox
         as_letter : (d : NamedChannel) → core.after_send c v ≡ d → (if c.ended then false else length c.queued == c.capacity) ≡ false → as_mailbox (handed_on d) ≡ record (message_sent letter v) { wakes = [] } → room_seen (handed_on d) ≡ room_seen c → d.waiting ≡ c.waiting
-            → map (λ (k : NamedWaker). k.waker) d.wakes ≡ (message_sent letter v).wakes → tried_told (core.send_answer c v) ≡ (if sent_answer letter then answers.Accepted else answers.Closed v) → Done
+            → map (λ (k : NamedWaker). k.waker) d.wakes ≡ (message_sent letter v).wakes → tried_told (core.send_answer c v) ≡ (if sent_answer letter then answers.Accepted else answers.Closed v) → Yields (TrySend k v) answer (insert s.cs y.channel c') s.ss s.rs s.xs before after
         as_letter d left placed is room still woken told =
             let m = mails_send v d answer is (says ∙ told) in
             let entry : c' ≡ handed_on d = hands.entry ∙ ap handed_on left in
@@ -443,7 +421,7 @@ module _ {old : Part Bounded} {i : ℕ} (s : BoundedSite old i) where
                   (omega (arith, counted, sum, hands.counted)),
             )
 
-        at : (ended full : Bool) → c.ended ≡ ended → (length c.queued == c.capacity) ≡ full → Done
+        at : (ended full : Bool) → c.ended ≡ ended → (length c.queued == c.capacity) ≡ full → Yields (TrySend k v) answer (insert s.cs y.channel c') s.ss s.rs s.xs before after
         at true full is isf = as_letter c (rw is refl) (rw is refl) (rw is refl) refl refl (rw is refl) (rw is refl)
         at false true is isf =
             let left : core.after_send c v ≡ c = rw (is, isf) refl in
@@ -482,7 +460,7 @@ module _ {old : Part Bounded} {i : ℕ} (s : BoundedSite old i) where
     gives_way : (a : Action) (b : BoundedAction) (v : ℕ) (rest : List ℕ) (c' : NamedChannel) (answer : Answer) (before after : Waking ℕ) → IsChannel c
         → bounded_act before_it i b ≡ model.received before_it x.channel (act_in before_it.mail i a) → answer ≡ answers.Got v
         → HandsOn c (core.after_recv_of c (v ∷ rest)) c' before after → Mails a answer (insert s.cs x.channel (handed_on (core.after_recv_of c (v ∷ rest)))) s.ss s.rs []
-        → IsKeptBounded (insert s.cs x.channel c') s.ss s.rs s.xs (i + 1) × PartYields registered old i (bounded_act old.hall i b) answer (part_of (insert s.cs x.channel c') s.ss s.rs s.xs (i + 1)) before after
+        → Yields b answer (insert s.cs x.channel c') s.ss s.rs s.xs before after
     gives_way a b v rest c' answer before after is acts says hands m =
         let way = made c (own of_channel x.channel s.xs) (its_linked x.channel c there).linked is in
         let counted = kept_now x.channel c there (handed_on (core.after_recv_of c (v ∷ rest))) in
@@ -502,7 +480,7 @@ module _ {old : Part Bounded} {i : ℕ} (s : BoundedSite old i) where
     -- nothing changed but the mailbox
     only_mail : (a : Action) (b : BoundedAction) (d c' : NamedChannel) (answer : Answer) (before after : Waking ℕ) → bounded_act before_it i b ≡ model.received before_it x.channel (act_in before_it.mail i a) → model.is_got answer ≡ false
         → d.waiting ≡ c.waiting → d.wakes ≡ [] → room_seen d ≡ room_seen c → HandsOn c d c' before after → Mails a answer (insert s.cs x.channel (handed_on d)) s.ss s.rs []
-        → IsKeptBounded (insert s.cs x.channel c') s.ss s.rs s.xs (i + 1) × PartYields registered old i (bounded_act old.hall i b) answer (part_of (insert s.cs x.channel c') s.ss s.rs s.xs (i + 1)) before after
+        → Yields b answer (insert s.cs x.channel c') s.ss s.rs s.xs before after
     only_mail a b d c' answer before after acts says still silent room hands m =
         let counted = kept_now x.channel c there (handed_on d) in
         let rooms = same_rooms x.channel c (handed_on d) there room in
@@ -518,12 +496,9 @@ module _ {old : Part Bounded} {i : ℕ} (s : BoundedSite old i) where
 
     -- it takes the first message
     pub received : (c' : NamedChannel) (answer : Answer) (before after : Waking ℕ) → IsChannel c → answer ≡ told (core.recv_answer c) → HandsOn c (core.after_recv c) c' before after
-        → IsKeptBounded (insert s.cs x.channel c') s.ss s.rs s.xs (i + 1) × PartYields registered old i (bounded_act old.hall i (TryReceive r)) answer (part_of (insert s.cs x.channel c') s.ss s.rs s.xs (i + 1)) before after
+        → Yields (TryReceive r) answer (insert s.cs x.channel c') s.ss s.rs s.xs before after
     received c' answer before after is says hands = at c.queued refl
       where
-        Done : Type 0
-        Done = IsKeptBounded (insert s.cs x.channel c') s.ss s.rs s.xs (i + 1) × PartYields registered old i (bounded_act old.hall i (TryReceive r)) answer (part_of (insert s.cs x.channel c') s.ss s.rs s.xs (i + 1)) before after
-
         acts : bounded_act before_it i (TryReceive r) ≡ model.received before_it x.channel (act_in before_it.mail i (actions.Receive r true))
         acts = found_receiver (λ o. model.received before_it o (act_in before_it.mail i (actions.Receive r true)))
 
@@ -533,7 +508,7 @@ module _ {old : Part Bounded} {i : ℕ} (s : BoundedSite old i) where
             (says ∙ ap told (same_answer c.queued)) (as_tried q ∙ sym (ap (letters_core.after_recv_of inbox) queue)) in
             from_rests (actions.Receive r true) answer (insert s.cs x.channel (handed_on (core.after_recv_of c q))) s.ss s.rs _ _ (seen-insert as_mailbox s.cs x.channel (handed_on (core.after_recv_of c q))) refl all.0 all.1
 
-        at : (q : List ℕ) → c.queued ≡ q → Done
+        at : (q : List ℕ) → c.queued ≡ q → Yields (TryReceive r) answer (insert s.cs x.channel c') s.ss s.rs s.xs before after
         at [] queue = only_mail (actions.Receive r true) (TryReceive r) c c' answer before after acts (ap model.is_got says ∙ ap (λ q. model.is_got (told (core.recv_answer_of c q))) queue ∙ none_got c) refl (its_quiet x.channel c there) refl
             (subst (λ d. HandsOn c d c' before after) (ap (core.after_recv_of c) queue) hands) (mails [] queue)
         at (v ∷ rest) queue = gives_way (actions.Receive r true) (TryReceive r) v rest c' answer before after is acts (says ∙ ap (λ q. told (core.recv_answer_of c q)) queue)
@@ -541,12 +516,9 @@ module _ {old : Part Bounded} {i : ℕ} (s : BoundedSite old i) where
 
     -- it is polled
     pub polled : (w : ℕ) (c' : NamedChannel) (answer : Answer) (before after : Waking ℕ) → IsChannel c → answer ≡ poll_told (core.recv_answer c) → HandsOn c (polled_as c (record { future = r; waker = w }) (core.recv_answer c)) c' before after
-        → IsKeptBounded (insert s.cs x.channel c') s.ss s.rs s.xs (i + 1) × PartYields registered old i (bounded_act old.hall i (PollReceive r w)) answer (part_of (insert s.cs x.channel c') s.ss s.rs s.xs (i + 1)) before after
+        → Yields (PollReceive r w) answer (insert s.cs x.channel c') s.ss s.rs s.xs before after
     polled w c' answer before after is says hands = at c.queued refl
       where
-        Done : Type 0
-        Done = IsKeptBounded (insert s.cs x.channel c') s.ss s.rs s.xs (i + 1) × PartYields registered old i (bounded_act old.hall i (PollReceive r w)) answer (part_of (insert s.cs x.channel c') s.ss s.rs s.xs (i + 1)) before after
-
         acts : bounded_act before_it i (PollReceive r w) ≡ model.received before_it x.channel (act_in before_it.mail i (actions.Poll r w))
         acts = found_receiver (λ o. model.received before_it o (act_in before_it.mail i (actions.Poll r w)))
 
@@ -561,21 +533,15 @@ module _ {old : Part Bounded} {i : ℕ} (s : BoundedSite old i) where
             from_yields (actions.Poll r w) answer (insert s.cs x.channel (handed_on d)) s.ss s.rs _ _ (record { wakers = []; registered = length (option_to_list inbox.waker) })
             (record { wakers = []; registered = length (option_to_list (as_mailbox d).waker) }) refl (seen-insert as_mailbox s.cs x.channel (handed_on d)) refl all.0 all.1
 
-        at_none : c.queued ≡ [] → (a : Result ℕ TryRecvError) → core.recv_answer c ≡ a → Done
-        at_none queue (Ok v) answered = absurd (not_ok (core.recv_answer_of c []) (none_told c) (ap (core.recv_answer_of c) (sym queue) ∙ answered))
-          where
-            not_ok : (a : Result ℕ TryRecvError) → model.is_got (told a) ≡ false → a ≡ Ok v → ⊥
-            not_ok a none is = let here = sym none ∙ ap (λ a. model.is_got (told a)) is in absurd (cc)
-
-            none_told : (c : NamedChannel) → model.is_got (told (core.recv_answer_of c [])) ≡ false
-            none_told c = none_got c
+        at_none : c.queued ≡ [] → (a : Result ℕ TryRecvError) → core.recv_answer c ≡ a → Yields (PollReceive r w) answer (insert s.cs x.channel c') s.ss s.rs s.xs before after
+        at_none queue (Ok v) answered = absurd (let got : false ≡ true = sym (none_got c) ∙ ap (λ a. model.is_got (told a)) (ap (core.recv_answer_of c) (sym queue) ∙ answered) in cc)
         at_none queue (Err try.Disconnected) answered = only_mail (actions.Poll r w) (PollReceive r w) c c' answer before after acts (ap model.is_got (says ∙ ap poll_told answered)) refl (its_quiet x.channel c there) refl
             (subst (λ a. HandsOn c (polled_as c waker a) c' before after) answered hands) (mails (Err try.Disconnected) answered c (λ j. record inbox { wakes = (sym still_quiet) j }))
         at_none queue (Err try.Empty) answered = only_mail (actions.Poll r w) (PollReceive r w) (record c { waker = Some waker }) c' answer before after acts (ap model.is_got (says ∙ ap poll_told answered)) refl (its_quiet x.channel c there) refl
             (let moved = subst (λ a. HandsOn c (polled_as c waker a) c' before after) answered hands in moved)
             (mails (Err try.Empty) answered (record c { waker = Some waker }) (λ j. record inbox { waker = Some w; wakes = (sym still_quiet) j }))
 
-        at : (q : List ℕ) → c.queued ≡ q → Done
+        at : (q : List ℕ) → c.queued ≡ q → Yields (PollReceive r w) answer (insert s.cs x.channel c') s.ss s.rs s.xs before after
         at [] queue = at_none queue (core.recv_answer c) refl
         at (v ∷ rest) queue =
             let answered : core.recv_answer c ≡ Ok v = ap (core.recv_answer_of c) queue in

@@ -189,15 +189,6 @@ module _ (c : NamedChannel) (xs : Names KeptSend) (linked : Linked c.waiting.que
     its_home : IsHome queue c.waiting.granted x.acquire
     its_home = linked.home f x.acquire its
 
-    pub its_belongs : Belongs c.waiting x.acquire
-    its_belongs = at x.acquire its_home
-      where
-        at : (a : Acquire) → IsHome queue c.waiting.granted a → Belongs c.waiting a
-        at (New d) home = tt
-        at (Queued d n) home = inl home
-        at (Done d) home = absurd home
-        at (Refused d) home = absurd home
-
     -- what is seen of its place
     abbrev is_waiting : Bool
     is_waiting = waits (who (names_in queue)) f

@@ -2,7 +2,8 @@
 use Rattle.std.proofs.Common.{◌≡◌, ℕ, Option, Some, None, is_some, refl, ap, subst, ◌∙◌}
 use Rattle.std.specs.FinMap.{get}
 use Rattle.mea_family.specs.Causes.{unknown_unless}
-use Rattle.mea_chan_model.specs.Boxes.{Boxes, BoxAction, box_cause}
+use Rattle.mea_chan_model.specs.declared.box_action.BoxAction.{BoxAction}
+use Rattle.mea_chan_model.specs.Boxes.{Boxes, box_cause}
 use Rattle.mea_chan.specs.Actions.{IsFreeContent}
 
 -- a value takes memory

@@ -9,10 +9,9 @@ use Rattle.mea_family.specs.declared.stop.Stop.TheVariants as stops
 use Rattle.mea_family.specs.Family.{Outcome, quietly}
 use Rattle.mea_base.specs.Ready.{Waking}
 use Rattle.mea_base.specs.Totals.{total, weight}
-use Rattle.mea_base.proofs.Maps.{total-has, nothing_at, inside, get-there, get-other, get-removed_other, is_there, value_in}
-use Rattle.mea_base.proofs.Totals.{total-insert, total-remove, get_inserted, get_removed}
-use Rattle.mea_base.proofs.NamedMaps.{is_some-map, get-seen, same_named}
-use Rattle.std.proofs.lemmas.Bool.{eqb-true}
+use Rattle.mea_base.proofs.Maps.{total-has, nothing_at, inside, get-there, get-removed_other, is_there, value_in}
+use Rattle.mea_base.proofs.Totals.{total-insert, total-remove}
+use Rattle.mea_base.proofs.NamedMaps.{is_some-map, get-seen}
 use Rattle.mea_by_name.specs.ByName.{Names, seen, own}
 use Rattle.mea_family.specs.Play.{Part, PartYields, PartRests, found}
 use Rattle.mea_by_name.proofs.Cases.{found_is}
@@ -21,6 +20,7 @@ use Rattle.mea_by_name.proofs.Own.{seen-at, seen-back, own-seen, len-seen, seen-
 use Rattle.mea_chan_core.specs.Mailbox.{recv_answer, after_recv, without_sender}
 use Rattle.mea_chan_model.specs.Mailboxes as model
 use Rattle.mea_chan_model.specs.Valid.{AreValid}
+use Rattle.mea_chan_model.proofs.Acting.{known_but}
 use Rattle.mea_chan_model.specs.Mailboxes.{Mailboxes, Receiver, is_channel, is_sender, is_receiver, polls_as, senders_in, channel_of, registered, tidied_channels}
 use Rattle.mea_chan_model.specs.MailboxActions.{act_in, cause_in, most_senders, Make, Copy, Send, SendLast, EndSender, Receive, Poll, EndReceiver, Turn, TellClosed, TellOver, TellMessage}
 use Rattle.mea_chan.specs.declared.receiver_entry.ReceiverEntry.{ReceiverEntry}
@@ -36,16 +36,6 @@ kept_in cs = total (λ o m. kept m) cs
 
 registered_is : (cs : Names Mailbox) (ss : Names ℕ) (rs : Names ReceiverEntry) → registered (mailboxes_seen cs ss rs) ≡ kept_in cs
 registered_is cs ss rs = total-seen channel_seen (λ (c : model.Mailbox). length (option_to_list c.waker)) cs
-
--- a channel that is gone and one that was put are gone
-swapped : (rs : Names ReceiverEntry) (r i : ℕ) (y : ReceiverEntry) → (r ≡ i → ⊥) → remove (insert rs i y) r ≡ insert (remove rs r) i y
-swapped rs r i y apart = same_named _ _ (λ q. get_removed (insert rs i y) r q ∙ ap (cond (r == q) None) (get_inserted rs i q y) ∙ at q (r == q) (i == q) refl refl ∙ sym (get_inserted (remove rs r) i q y ∙ ap (cond (i == q) (Some y)) (get_removed rs r q)))
-  where
-    at : (q : ℕ) (a b : Bool) → (r == q) ≡ a → (i == q) ≡ b → cond a None (cond b (Some y) (get rs q)) ≡ cond b (Some y) (cond a None (get rs q))
-    at q true true first second = absurd (apart (eqb-true r q first ∙ sym (eqb-true i q second)))
-    at q true false first second = refl
-    at q false true first second = refl
-    at q false false first second = refl
 
 not_some : (p : Option Mailbox) → IsSome p → p ≡ None → ⊥
 not_some None some none = absurd (cc)
@@ -85,10 +75,6 @@ seen_valid cs ss rs next view kept = subst (λ (p : Part Mailboxes). AreValid p.
   waits = λ o c w there waker. let it = seen-back channel_seen cs o c there in
       subst (λ (c : model.Mailbox). (c.queued ≡ []) × (0 < c.senders)) it.2 ((kept.each o it.0 it.1).waits w (ap (λ (c : model.Mailbox). c.waker) it.2 ∙ waker));
 })
-
-receiver_some : (p : Option ReceiverEntry) (polls : Bool) → polls_as (option_map receiver_seen p) polls ≡ true → IsSome p
-receiver_some None polls is = absurd (cc)
-receiver_some (Some x) polls is = refl
 
 not_overflowing : (crowded : Bool) → (if crowded then Some stops.Overflow else None) ≡ None → crowded ≡ false
 not_overflowing true is = absurd (cc)
@@ -141,14 +127,7 @@ module _ {old : Part Mailboxes} {i : ℕ} (s : Site old i) where
   sender_there k is = ap (λ (p : Part Mailboxes). is_sender p.hall k) s.view ∙ is
 
   pub copier_there : (k : ℕ) → cause_in old.hall (Copy k) ≡ None → IsSome (get s.ss k)
-  copier_there k allowed = sender_there k (at (is_sender old.hall k) refl allowed)
-    where
-      at : (b : Bool) → is_sender old.hall k ≡ b → (if b then (if model.senders_beside old.hall k == most_senders then Some stops.Overflow else None) else Some stops.Unknown) ≡ None → is_sender old.hall k ≡ true
-      at true is says = is
-      at false is says = absurd (cc)
-
-  pub receiver_there : (r : ℕ) (polls : Bool) → is_receiver old.hall r polls ≡ true → IsSome (get s.rs r)
-  receiver_there r polls is = receiver_some (get s.rs r) polls (receiver_is s.cs s.ss s.rs s.next s.view r (get s.rs r) refl polls ∙ is)
+  copier_there k allowed = sender_there k (known_but (is_sender old.hall k) (model.senders_beside old.hall k == most_senders) stops.Overflow allowed)
 
   pub senders_channel : (k o : ℕ) → get s.ss k ≡ Some o → IsSome (get s.cs o)
   senders_channel k o there = (s.kept.firsts.at k o there).1
@@ -449,14 +428,11 @@ module _ {old : Part Mailboxes} {i : ℕ} (s : Site old i) where
     abbrev future : ReceiverEntry
     future = record { channel = x.channel; polls = true }
 
-    apart : r ≡ i → ⊥
+    pub apart : r ≡ i → ⊥
     apart same = absurd (let low = (s.kept.seconds.at r x receiver).0 in let later = s.later in omega (arith, low, later, same))
 
-    pub still_there : IsSome (get (insert s.rs i future) r)
-    still_there = is_there _ x (get-other s.rs i r future (λ same. apart (sym same)) ∙ receiver)
-
-    pub turned : (rs' : Names ReceiverEntry) → rs' ≡ insert s.rs i future
-        → (AreKeptMailboxes s.cs s.ss (remove rs' r) (i + 1)) × PartRests registered old i (act_in old.hall i (Turn r)) answers.Made (part_of s.cs s.ss (remove rs' r) (i + 1))
+    pub turned : (rs' : Names ReceiverEntry) → rs' ≡ insert (remove s.rs r) i future
+        → (AreKeptMailboxes s.cs s.ss rs' (i + 1)) × PartRests registered old i (act_in old.hall i (Turn r)) answers.Made (part_of s.cs s.ss rs' (i + 1))
     turned rs' is =
         let m = value_in (get s.cs x.channel) (receivers_channel r x receiver) in
         let own_it = own_receiver r x m.0 receiver m.1 in
@@ -465,7 +441,7 @@ module _ {old : Part Mailboxes} {i : ℕ} (s : Site old i) where
         let good : AreKept m.0 (own of_sender x.channel s.ss) (own of_receiver x.channel (insert (remove s.rs r) i future)) =
         rw (own-put of_receiver x.channel (remove s.rs r) i future refl, own-gone of_receiver x.channel s.rs r)
         (one.turned_kept m.0 _ _ (its_kept x.channel m.0 m.1) r x own_it i future (rw (← own-gone of_receiver x.channel s.rs r) (own-none of_receiver x.channel (remove s.rs r) i free))) in
-        rw (is, swapped s.rs r i future apart) (
+        rw is (
           subst (λ cs. AreKeptMailboxes cs s.ss (insert (remove s.rs r) i future) (i + 1)) (insert_same s.cs x.channel m.0 m.1) (turns x.channel m.0 m.1 m.0 s.ss (insert (remove s.rs r) i future) Stays moves good),
           rests_as (λ h. act_in h i (Turn r)) _ answers.Made s.cs s.ss (insert (remove s.rs r) i future) (found_is _ (mailboxes_seen s.cs s.ss s.rs) _ (receiver_seen x) (seen-at receiver_seen s.rs r x receiver)) refl
               refl refl (seen-insert receiver_seen (remove s.rs r) i future ∙ ap (λ q. insert q i (receiver_seen future)) (seen-remove receiver_seen s.rs r)) refl refl,

@@ -32,25 +32,13 @@ silent m ss rs k none = at m.waker refl
 -- ---- what is seen of each change, and the wakers that it makes ready
 module _ (m : Mailbox) where
   pub seen_sent : (v : ℕ) → channel_seen (settled (message_sent m v)) ≡ model.with_message (channel_seen m) v
-  seen_sent v = at m.ended
-    where
-      at : (b : Bool) → channel_seen (settled (if b then m else with_message m v)) ≡ (if b then channel_seen m else record (channel_seen m) { queued = m.queued ++ v ∷ []; waker = None })
-      at true = refl
-      at false = refl
+  seen_sent v = elim m.ended as (λ b. channel_seen (settled (if b then m else with_message m v)) ≡ (if b then channel_seen m else record (channel_seen m) { queued = m.queued ++ v ∷ []; waker = None })) [ true ↦ refl | false ↦ refl ]
 
   pub woken_sent : (v : ℕ) → m.wakes ≡ [] → (message_sent m v).wakes ≡ model.woken_by_send (channel_seen m)
-  woken_sent v quiet = at m.ended
-    where
-      at : (b : Bool) → (if b then m else with_message m v).wakes ≡ (if b then [] else option_to_list m.waker)
-      at true = quiet
-      at false = ap (λ ws. ws ++ option_to_list m.waker) quiet
+  woken_sent v quiet = elim m.ended as (λ b. (if b then m else with_message m v).wakes ≡ (if b then [] else option_to_list m.waker)) [ true ↦ quiet | false ↦ ap (λ ws. ws ++ option_to_list m.waker) quiet ]
 
   pub answer_sent : (v : ℕ) (answer : Answer) → answer ≡ (if sent_answer m then answers.Accepted else answers.Closed v) → answer ≡ model.sent (channel_seen m) v
-  answer_sent v answer is = is ∙ at m.ended
-    where
-      at : (b : Bool) → (if not b then answers.Accepted else answers.Closed v) ≡ (if b then answers.Closed v else answers.Accepted)
-      at true = refl
-      at false = refl
+  answer_sent v answer is = is ∙ (elim m.ended as (λ b. (if not b then answers.Accepted else answers.Closed v) ≡ (if b then answers.Closed v else answers.Accepted)) [ true ↦ refl | false ↦ refl ])
 
   pub seen_last : (v : ℕ) → channel_seen (settled (last_sent m v)) ≡ model.without_senders (model.with_message (channel_seen m) v)
   seen_last v = at m.ended refl
@@ -69,39 +57,27 @@ module _ (m : Mailbox) where
       at false = refl
 
   pub woken_less : m.wakes ≡ [] → (without_sender m).wakes ≡ model.woken_by_end (channel_seen m)
-  woken_less quiet = at (m.senders == 1)
-    where
-      at : (b : Bool) → (if b then record m { senders = 0; waker = None; wakes = m.wakes ++ option_to_list m.waker } else record m { senders = m.senders - 1 }).wakes ≡ (if b then option_to_list m.waker else [])
-      at true = ap (λ ws. ws ++ option_to_list m.waker) quiet
-      at false = quiet
+  woken_less quiet = elim (m.senders == 1) as (λ b. (if b then record m { senders = 0; waker = None; wakes = m.wakes ++ option_to_list m.waker } else record m { senders = m.senders - 1 }).wakes ≡ (if b then option_to_list m.waker else [])) [ true ↦ ap (λ ws. ws ++ option_to_list m.waker) quiet | false ↦ quiet ]
 
   pub none_kept : m.waker ≡ None → kept m ≡ 0
   none_kept none = ap (λ (o : Option ℕ). length (option_to_list o)) none
 
   pub over_is : is_over m ≡ true → (m.ended ≡ true) × (m.senders ≡ 0)
-  over_is = at m.ended
-    where
-      at : (b : Bool) → (if b then m.senders == 0 else false) ≡ true → (b ≡ true) × (m.senders ≡ 0)
-      at true is = (refl, eqb-true m.senders 0 is)
-      at false is = absurd (cc)
+  over_is = elim m.ended as (λ b. (if b then m.senders == 0 else false) ≡ true → (b ≡ true) × (m.senders ≡ 0)) [ true ↦ λ is. (refl, eqb-true m.senders 0 is) | false ↦ λ is. absurd (cc) ]
 
   -- ---- what it keeps to after each change, with its senders and receivers
   module _ (ss : Names ℕ) (rs : Names ReceiverEntry) (k : AreKept m ss rs) where
     pub sent_kept : (v : ℕ) → AreKept (settled (message_sent m v)) ss rs
-    sent_kept v = at m.ended refl
-      where
-        at : (b : Bool) → m.ended ≡ b → AreKept (settled (if b then m else with_message m v)) ss rs
-        at true is = record { senders = k.senders; receivers = k.receivers; waits = k.waits; quiet = refl }
-        at false is = record { senders = k.senders; receivers = k.receivers; waits = λ w kept. absurd (no_waker w kept); quiet = refl }
+    sent_kept v = elim m.ended as (λ b. AreKept (settled (if b then m else with_message m v)) ss rs) [
+      | true ↦ record { senders = k.senders; receivers = k.receivers; waits = k.waits; quiet = refl }
+      | false ↦ record { senders = k.senders; receivers = k.receivers; waits = λ w kept. absurd (no_waker w kept); quiet = refl }
+    ]
 
     pub received_kept : (v : ℕ) (rest : List ℕ) → m.queued ≡ v ∷ rest → AreKept (record m { queued = rest }) ss rs
     received_kept v rest queue = record { senders = k.senders; receivers = k.receivers; waits = λ w kept. absurd (let none = sym queue ∙ (k.waits w kept).0 in cc); quiet = k.quiet }
 
     pub waits_kept : (w : ℕ) → m.queued ≡ [] → (m.senders == 0) ≡ false → AreKept (record m { waker = Some w }) ss rs
-    waits_kept w queue some = record { senders = k.senders; receivers = k.receivers; waits = λ v kept. (queue, at_least m.senders (eqb-false m.senders 0 some)); quiet = k.quiet }
-      where
-        at_least : (n : ℕ) → (n ≡ 0 → ⊥) → 0 < n
-        at_least n more = omega (arith, more)
+    waits_kept w queue some = record { senders = k.senders; receivers = k.receivers; waits = λ v kept. (queue, let more = eqb-false m.senders 0 some in omega (arith, more)); quiet = k.quiet }
 
     pub copied_kept : (i o : ℕ) → get ss i ≡ None → AreKept (record m { senders = m.senders + 1 }) (insert ss i o) rs
     copied_kept i o absent = record {
@@ -124,23 +100,16 @@ module _ (m : Mailbox) where
           at false is = record {
             senders = let less = len-gone ss s o there in omega (arith, less, k.senders);
             receivers = k.receivers;
-            waits = λ w kept. ((k.waits w kept).0, let more = eqb-false m.senders 1 is in let some = some_sender in at_least m.senders some more);
+            waits = λ w kept. ((k.waits w kept).0, let more = eqb-false m.senders 1 is in let some = some_sender in omega (arith, some, more));
             quiet = refl;
           }
-            where
-              at_least : (n : ℕ) → 0 < n → (n ≡ 1 → ⊥) → 0 < n - 1
-              at_least n some more = omega (arith, some, more)
 
       pub last_kept : (v : ℕ) → m.senders ≡ 1 → AreKept (settled (last_sent m v)) (remove ss s) rs
       last_kept v one = record { senders = let less = len-gone ss s o there in omega (arith, one, less, k.senders); receivers = k.receivers; waits = λ w kept. absurd (no_waker w kept); quiet = refl }
 
     module _ (r : ℕ) (x : ReceiverEntry) (there : get rs r ≡ Some x) where
       pub lives : m.ended ≡ false
-      lives = at m.ended k.receivers
-        where
-          at : (b : Bool) → cond b 0 1 ≡ len rs → b ≡ false
-          at true none = absurd (let some = len-some rs r x there in omega (arith, none, some))
-          at false one = refl
+      lives = elim m.ended as (λ b. cond b 0 1 ≡ len rs → b ≡ false) [ true ↦ λ none. absurd (let some = len-some rs r x there in omega (arith, none, some)) | false ↦ λ one. refl ] k.receivers
 
       pub ended_kept : (falls : Bool) → AreKept (settled (receiver_ended falls m)) ss (remove rs r)
       ended_kept falls = record {
@@ -169,11 +138,7 @@ module _ (m : Mailbox) where
     answer_none = ap (λ b. if b then Err try.Disconnected else if m.senders == 0 then Err try.Disconnected else Err try.Empty) living
 
     pub told_none : m.queued ≡ [] → told (recv_answer m) ≡ (if m.senders == 0 then answers.Gone else answers.Empty)
-    told_none none = ap told (ap (recv_answer_of m) none ∙ answer_none) ∙ at (m.senders == 0)
-      where
-        at : (b : Bool) → told (if b then Err try.Disconnected else Err try.Empty) ≡ (if b then answers.Gone else answers.Empty)
-        at true = refl
-        at false = refl
+    told_none none = ap told (ap (recv_answer_of m) none ∙ answer_none) ∙ (elim (m.senders == 0) as (λ b. told (if b then Err try.Disconnected else Err try.Empty) ≡ (if b then answers.Gone else answers.Empty)) [ true ↦ refl | false ↦ refl ])
 
     pub answer_gone : m.queued ≡ [] → (m.senders == 0) ≡ true → recv_answer m ≡ Err try.Disconnected
     answer_gone none gone = ap (recv_answer_of m) none ∙ answer_none ∙ ap (λ b. if b then Err try.Disconnected else Err try.Empty) gone

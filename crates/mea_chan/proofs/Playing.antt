@@ -1,5 +1,5 @@
 -- what is said of the channels and boxes of one kind, and of all
-use Rattle.std.proofs.Common.{◌≡◌, ℕ, ◌+◌, ◌≤◌, ◌++◌, List, [], None, Result, Ok, Err, length, refl, ap, sym, subst, ◌∙◌, arith, append-nil}
+use Rattle.std.proofs.Common.{◌≡◌, ℕ, ◌+◌, ◌++◌, List, [], Result, Ok, Err, length, refl, ap, sym, subst, ◌∙◌, arith, append-nil}
 use Rattle.mea_base.specs.Ready.{Waking}
 use Rattle.mea_base.proofs.Totals.{total-empty}
 use Rattle.mea_family.specs.declared.answer.Answer.{Answer}
@@ -8,15 +8,15 @@ use Rattle.mea_family.specs.Play.{Part, PartYields}
 use Rattle.mea_chan_model.proofs.Wakers.{box_quiet}
 use Rattle.mea_chan_model.specs.Mailboxes as mailboxes
 use Rattle.mea_chan_model.specs.Mailboxes.{Mailbox, Mailboxes}
-use Rattle.mea_chan_model.specs.MailboxActions.{Action, act_in}
+use Rattle.mea_chan_model.specs.MailboxActions.{Action}
 use Rattle.mea_chan_model.specs.Bounded as bounded_ones
 use Rattle.mea_chan_model.specs.Bounded.{Bounded}
-use Rattle.mea_chan_model.specs.BoundedActions.{BoundedAction, bounded_act}
-use Rattle.mea_chan_model.specs.Broadcasts as broadcast_ones
+use Rattle.mea_chan_model.specs.declared.bounded_action.BoundedAction.{BoundedAction}
 use Rattle.mea_chan_model.specs.Broadcasts.{Broadcast, Broadcasts}
-use Rattle.mea_chan_model.specs.BroadcastActions.{BroadcastAction, broadcast_act}
-use Rattle.mea_chan_model.specs.Boxes.{Boxes, BoxAction}
-use Rattle.mea_chan_model.specs.ChanHall.{ChanHall, Kind, Unbounded, Oneshots, BoxKind, Full, Optional, empty_hall, registered}
+use Rattle.mea_chan_model.specs.declared.broadcast_action.BroadcastAction.{BroadcastAction}
+use Rattle.mea_chan_model.specs.declared.box_action.BoxAction.{BoxAction}
+use Rattle.mea_chan_model.specs.Boxes.{Boxes}
+use Rattle.mea_chan_model.specs.ChanHall.{Kind, Unbounded, Oneshots, BoxKind, Full, Optional, empty_hall, registered}
 use Rattle.mea_chan_model.specs.Meaning.{Meaning, OfChannels, OfBounded, OfBroadcasts, OfBoxes, step_by}
 use Rattle.mea_chan_broadcast.specs.Actions.{BroadcastActs}
 use Rattle.mea_chan.specs.Actions.{BoundedActs, MailActs, BoxActs}

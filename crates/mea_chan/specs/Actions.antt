@@ -10,40 +10,25 @@ use Rattle.mea_chan_model.specs.Mailboxes.{Mailboxes}
 use Rattle.mea_chan_model.specs.MailboxActions as mail
 use Rattle.mea_chan_model.specs.MailboxActions.{Action, cause_in, act_in}
 use Rattle.mea_chan_model.specs.Bounded as bounded_ones
-use Rattle.mea_chan_model.specs.BoundedActions as bounded
+use Rattle.mea_chan_model.specs.declared.bounded_action.BoundedAction.{BoundedAction}
+use Rattle.mea_chan_model.specs.declared.bounded_action.BoundedAction.TheVariants.{MakeRoom, CopySender, BeginSend, PollSend, PollReceive}
 use Rattle.mea_chan_model.specs.BoundedActions.{bounded_cause, bounded_act}
 use Rattle.mea_chan_model.specs.Boxes as boxes
+use Rattle.mea_chan_model.specs.declared.box_action.BoxAction.{BoxAction}
+use Rattle.mea_chan_model.specs.declared.box_action.BoxAction.TheVariants.{MakeBox, Swap, Store}
 use Rattle.mea_chan_model.specs.Boxes.{box_cause}
 use Rattle.mea_chan_model.specs.ChanHall as kinds
 use Rattle.mea_chan_model.specs.Meaning as model
 use Rattle.mea_chan_model.specs.Meaning.{OfChannels, OfBounded, OfBroadcasts, OfBoxes}
-use Rattle.mea_chan_broadcast.specs.Actions.{broadcast_action}
-use Rattle.mea_chan.specs.declared.actions.BoundedAction.{BoundedAction}
-use Rattle.mea_chan.specs.declared.actions.BoundedAction.TheVariants.{MakeRoom, CopySender, TrySend, BeginSend, PollSend, EndSend, TryReceive, PollReceive, DropSender, DropReceiver}
 use Rattle.mea_chan.specs.declared.actions.MailAction.{MailAction}
 use Rattle.mea_chan.specs.declared.actions.MailAction.TheVariants.{Make, EndSender, Receive, Poll, EndReceiver}
 use Rattle.mea_chan.specs.declared.actions.UnboundedAction.{UnboundedAction}
 use Rattle.mea_chan.specs.declared.actions.UnboundedAction.TheVariants as unbounded
 use Rattle.mea_chan.specs.declared.actions.OneshotAction.{OneshotAction}
 use Rattle.mea_chan.specs.declared.actions.OneshotAction.TheVariants as oneshot
-use Rattle.mea_chan.specs.declared.actions.BoxAction.{BoxAction}
-use Rattle.mea_chan.specs.declared.actions.BoxAction.TheVariants.{MakeBox, Swap, Store, Tell, TakeOut, DropBox}
 use Rattle.mea_chan.specs.declared.meaning.Meaning.{Meaning}
 use Rattle.mea_chan.specs.declared.meaning.Meaning.TheVariants.{Bounded, Broadcasts, Unbounded, Oneshots, Boxes, OptionBoxes}
 use Rattle.mea_chan.specs.BoxParts.{BoxYields}
-
--- what is done to bounded channels
-abbrev pub bounded_action : BoundedAction → bounded.BoundedAction
-bounded_action (MakeRoom n) = bounded.MakeRoom n
-bounded_action (CopySender s) = bounded.CopySender s
-bounded_action (TrySend s v) = bounded.TrySend s v
-bounded_action (BeginSend s v) = bounded.BeginSend s v
-bounded_action (PollSend f w) = bounded.PollSend f w
-bounded_action (EndSend f) = bounded.EndSend f
-bounded_action (TryReceive r) = bounded.TryReceive r
-bounded_action (PollReceive r w) = bounded.PollReceive r w
-bounded_action (DropSender s) = bounded.DropSender s
-bounded_action (DropReceiver r) = bounded.DropReceiver r
 
 -- what may be done to unbounded channels and to oneshots, where a receiver's waker falls with it or does not
 abbrev pub mail_action : Bool → MailAction → Action
@@ -68,23 +53,14 @@ oneshot_action falls (oneshot.TellClosed s) = mail.TellClosed s
 oneshot_action falls (oneshot.TellOver r) = mail.TellOver r
 oneshot_action falls (oneshot.TellMessage r) = mail.TellMessage r
 
--- what is done to boxes and to option boxes
-abbrev pub box_action : BoxAction → boxes.BoxAction
-box_action (MakeBox c) = boxes.MakeBox c
-box_action (Swap b c) = boxes.Swap b c
-box_action (Store b c) = boxes.Store b c
-box_action (Tell b) = boxes.Tell b
-box_action (TakeOut b) = boxes.TakeOut b
-box_action (DropBox b) = boxes.DropBox b
-
 -- what a line means, in the words of the model
 abbrev pub meant : Meaning → model.Meaning
-meant (Bounded a) = OfBounded (bounded_action a)
-meant (Broadcasts a) = OfBroadcasts (broadcast_action a)
+meant (Bounded a) = OfBounded a
+meant (Broadcasts a) = OfBroadcasts a
 meant (Unbounded a) = OfChannels kinds.Unbounded (unbounded_action false a)
 meant (Oneshots a) = OfChannels kinds.Oneshots (oneshot_action true a)
-meant (Boxes a) = OfBoxes kinds.Full (box_action a)
-meant (OptionBoxes a) = OfBoxes kinds.Optional (box_action a)
+meant (Boxes a) = OfBoxes kinds.Full a
+meant (OptionBoxes a) = OfBoxes kinds.Optional a
 
 -- what is put into a box is a value
 abbrev pub FitsBox : BoxAction → Type 0
@@ -106,26 +82,26 @@ IsFree (mail.Poll r w) = ⊥
 IsFree (mail.Turn r) = ⊥
 IsFree _ = Unit {0}
 
-abbrev pub IsFreeBounded : bounded.BoundedAction → Type 0
-IsFreeBounded (bounded.MakeRoom n) = ⊥
-IsFreeBounded (bounded.CopySender s) = ⊥
-IsFreeBounded (bounded.BeginSend s v) = ⊥
-IsFreeBounded (bounded.PollSend f w) = ⊥
-IsFreeBounded (bounded.PollReceive r w) = ⊥
+abbrev pub IsFreeBounded : BoundedAction → Type 0
+IsFreeBounded (MakeRoom n) = ⊥
+IsFreeBounded (CopySender s) = ⊥
+IsFreeBounded (BeginSend s v) = ⊥
+IsFreeBounded (PollSend f w) = ⊥
+IsFreeBounded (PollReceive r w) = ⊥
 IsFreeBounded _ = Unit {0}
 
 abbrev pub IsFreeContent : Option ℕ → Type 0
 IsFreeContent None = Unit {0}
 IsFreeContent (Some v) = ⊥
 
-abbrev pub IsFreeBox : boxes.BoxAction → Type 0
-IsFreeBox (boxes.MakeBox c) = ⊥
-IsFreeBox (boxes.Swap b c) = IsFreeContent c
-IsFreeBox (boxes.Store b c) = IsFreeContent c
+abbrev pub IsFreeBox : BoxAction → Type 0
+IsFreeBox (MakeBox c) = ⊥
+IsFreeBox (Swap b c) = IsFreeContent c
+IsFreeBox (Store b c) = IsFreeContent c
 IsFreeBox _ = Unit {0}
 
 -- ---- event number i asked this of the channels of one kind, or of the boxes: it was done; or refused, and nothing has changed
-abbrev pub BoundedActs : Part bounded_ones.Bounded → ℕ → bounded.BoundedAction → Result Answer Stop → Part bounded_ones.Bounded → Waking ℕ → Waking ℕ → Type 0
+abbrev pub BoundedActs : Part bounded_ones.Bounded → ℕ → BoundedAction → Result Answer Stop → Part bounded_ones.Bounded → Waking ℕ → Waking ℕ → Type 0
 BoundedActs old i a = Acts bounded_ones.registered (bounded_cause old.hall a) (IsFreeBounded a) old i (bounded_act old.hall i a)
 
 abbrev pub MailActs : Part Mailboxes → ℕ → Action → Result Answer Stop → Part Mailboxes → Waking ℕ → Waking ℕ → Type 0
@@ -134,6 +110,6 @@ MailActs old i a = Acts mailboxes.registered (cause_in old.hall a) (IsFree a) ol
 abbrev pub MailActsQuietly : Part Mailboxes → ℕ → Action → Result Answer Stop → Part Mailboxes → Type 0
 MailActsQuietly old i a = ActsQuietly mailboxes.registered (cause_in old.hall a) (IsFree a) old i (act_in old.hall i a)
 
-abbrev pub BoxActs : boxes.Boxes → ℕ → boxes.BoxAction → Result Answer Stop → boxes.Boxes → Type 0
+abbrev pub BoxActs : boxes.Boxes → ℕ → BoxAction → Result Answer Stop → boxes.Boxes → Type 0
 BoxActs old i a (Ok answer) new = (box_cause old a ≡ None) × BoxYields old i a answer new
 BoxActs old i a (Err stop) new = Refuses (box_cause old a) (IsFreeBox a) stop × (new ≡ old)

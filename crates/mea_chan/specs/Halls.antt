@@ -11,11 +11,14 @@ use Rattle.mea_chan_model.specs.Mailboxes.{Mailboxes}
 use Rattle.mea_chan_model.specs.MailboxActions.{Action, act_in}
 use Rattle.mea_chan_model.specs.Bounded as bounded_ones
 use Rattle.mea_chan_model.specs.Bounded.{Bounded}
-use Rattle.mea_chan_model.specs.BoundedActions.{BoundedAction, bounded_act}
+use Rattle.mea_chan_model.specs.declared.bounded_action.BoundedAction.{BoundedAction}
+use Rattle.mea_chan_model.specs.BoundedActions.{bounded_act}
 use Rattle.mea_chan_model.specs.Broadcasts as broadcast_ones
 use Rattle.mea_chan_model.specs.Broadcasts.{Broadcasts}
-use Rattle.mea_chan_model.specs.BroadcastActions.{BroadcastAction, broadcast_act}
-use Rattle.mea_chan_model.specs.Boxes.{Boxes, BoxAction}
+use Rattle.mea_chan_model.specs.declared.broadcast_action.BroadcastAction.{BroadcastAction}
+use Rattle.mea_chan_model.specs.BroadcastActions.{broadcast_act}
+use Rattle.mea_chan_model.specs.declared.box_action.BoxAction.{BoxAction}
+use Rattle.mea_chan_model.specs.Boxes.{Boxes}
 use Rattle.mea_chan_model.specs.ChanHall.{ChanHall, Kind, Unbounded, Oneshots, BoxKind, Full, Optional}
 use Rattle.mea_chan_model.specs.Meaning.{Meaning, OfChannels, OfBounded, OfBroadcasts, OfBoxes, meaning_of, cause_by}
 use Rattle.mea_chan_broadcast.specs.Actions.{IsFreeBroadcast}

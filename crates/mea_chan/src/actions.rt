@@ -1,29 +1,3 @@
-/// What a line does to bounded channels. In each action `s` is the name of a sender, `r` that of a receiver, and `f` that of
-/// a send.
-#[derive(Clone, Copy)]
-pub enum BoundedAction {
-    /// Makes a channel with room for so many messages, with a sender and a receiver.
-    MakeRoom(u64),
-    /// Makes a further sender, beside one: `s`.
-    CopySender(u64),
-    /// Sends a message at once, or not at all: `s`, message.
-    TrySend(u64, u64),
-    /// Makes a send that may wait: `s`, message.
-    BeginSend(u64, u64),
-    /// Polls a send: `f`, waker.
-    PollSend(u64, u64),
-    /// Ends a send: `f`.
-    EndSend(u64),
-    /// Takes the first message, if there is one: `r`.
-    TryReceive(u64),
-    /// Polls a receiver: `r`, waker.
-    PollReceive(u64, u64),
-    /// Ends a sender that has no send: `s`.
-    DropSender(u64),
-    /// Ends a receiver: `r`.
-    DropReceiver(u64),
-}
-
 /// What a line may do to an unbounded channel and to a oneshot. In each action `s` is the name of a sender and `r` that of a
 /// receiver.
 #[derive(Clone, Copy)]
@@ -66,21 +40,4 @@ pub enum OneshotAction {
     TellOver(u64),
     /// Tells whether the message is there: `r`.
     TellMessage(u64),
-}
-
-/// What a line does to boxes and to option boxes. In each action `b` is the name of one.
-#[derive(Clone, Copy)]
-pub enum BoxAction {
-    /// Makes one with this content.
-    MakeBox(Option<u64>),
-    /// Puts another content in, and tells the one before: `b`, content.
-    Swap(u64, Option<u64>),
-    /// Puts another content in: `b`, content.
-    Store(u64, Option<u64>),
-    /// Tells the content: `b`.
-    Tell(u64),
-    /// Tells the content, and the box is gone: `b`.
-    TakeOut(u64),
-    /// Drops one: `b`.
-    DropBox(u64),
 }

@@ -1,14 +1,14 @@
 ghost use Rattle.std.specs.Prelude.{◌≡◌, ◌≢◌, ◌≤◌, ◌<◌, IfSome, is_some, None, Some, [], false};
 ghost use Rattle.mea_chan_model.specs.Mailboxes.{is_channel, is_sender};
 ghost use Rattle.mea_chan_model.specs.Bounded.{no_bounded, is_send, registered};
-ghost use Rattle.mea_chan_model.specs.BoundedActions.{bounded_cause, MakeRoom, CopySender, TrySend, BeginSend, PollSend, EndSend, TryReceive, PollReceive, DropSender, DropReceiver};
+ghost use Rattle.mea_chan_model.specs.declared.bounded_action.BoundedAction.TheVariants.{MakeRoom, CopySender, TrySend, BeginSend, PollSend, EndSend, TryReceive, PollReceive, DropSender, DropReceiver};
+ghost use Rattle.mea_chan_model.specs.BoundedActions.{bounded_cause};
 ghost use Rattle.mea_chan_model.specs.Valid.{AreValid};
 ghost use Rattle.mea_chan_core.specs.Channel.{no_senders};
-ghost use Rattle.mea_chan.specs.Actions.{bounded_action, BoundedActs};
+ghost use Rattle.mea_chan.specs.Actions.{BoundedActs};
 ghost use Rattle.mea_chan.specs.BoundedLends.{StandsForBounded};
 ghost use Rattle.mea_chan.specs.BoundedCores.{tried_told, ready_told};
 
-use crate::actions::BoundedAction;
 use crate::bounded_entry::BoundedEntry;
 use crate::receiver_entry::{ReceiverEntry, poll_told, receiver_in, told};
 use crate::send_entry::SendEntry;
@@ -16,6 +16,7 @@ use crate::sender_entry::SenderEntry;
 use mea_base::{Poll, Ready};
 use mea_by_name::{ByName, NamedWaker};
 use mea_chan_core::{BoundedCore, SendError, TrySendError};
+use mea_chan_model::BoundedAction;
 use mea_family::{Answer, Stop, borrowed_if, overflow_if, unknown_unless, zero_if};
 use std::alloc::Global;
 use std::marker::Model;
@@ -81,7 +82,7 @@ impl BoundedPart {
 
     /// Why an action is refused; None where it is not. It takes no memory.
     pub fn cause(&self, action: BoundedAction) -> Option<Stop>
-        ensures { result ≡ bounded_cause self.now.hall (bounded_action action) }
+        ensures { result ≡ bounded_cause self.now.hall action }
     {
         match action {
             BoundedAction::MakeRoom(n) => zero_if(n == 0),
@@ -108,7 +109,7 @@ impl BoundedPart {
     ) -> Result<Answer, Stop>
         requires next { self.old.next ≤ number }
         requires room { registered self.old.hall ≤ ready.old.registered }
-        ensures { BoundedActs self.old number (bounded_action action) result self.new ready.old ready.new }
+        ensures { BoundedActs self.old number action result self.new ready.old ready.new }
     {
         match action {
             BoundedAction::MakeRoom(n) => self.make(number, n, ready),

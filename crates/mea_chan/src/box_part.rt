@@ -1,13 +1,14 @@
 ghost use Rattle.std.specs.Prelude.{◌≡◌, true, None, IsSome, IfOk, IfSome, OnErr, is_some, Some};
 ghost use Rattle.std.specs.FinMap as map;
 ghost use Rattle.mea_family.specs.Play.{content as content_told};
-ghost use Rattle.mea_chan_model.specs.Boxes.{is_box, box_cause, MakeBox, Swap, Store, Tell, TakeOut, DropBox};
-ghost use Rattle.mea_chan.specs.Actions.{box_action, FitsBox, BoxActs};
+ghost use Rattle.mea_chan_model.specs.declared.box_action.BoxAction.TheVariants.{MakeBox, Swap, Store, Tell, TakeOut, DropBox};
+ghost use Rattle.mea_chan_model.specs.Boxes.{is_box, box_cause};
+ghost use Rattle.mea_chan.specs.Actions.{FitsBox, BoxActs};
 
-use crate::actions::BoxAction;
 use crate::box_core::BoxedCore;
 use mea_base::NoMemory;
 use mea_by_name::ByName;
+use mea_chan_model::BoxAction;
 use mea_family::{Answer, Stop, unknown_unless};
 use std::alloc::Global;
 use std::marker::Model;
@@ -104,7 +105,7 @@ impl<C: BoxedCore> BoxPart<C> {
 
     /// Why an action is refused; None where it is not. It takes no memory.
     pub fn cause(&self, action: BoxAction) -> Option<Stop>
-        ensures { result ≡ box_cause self.now (box_action action) }
+        ensures { result ≡ box_cause self.now action }
     {
         match action {
             BoxAction::MakeBox(_) => None,
@@ -118,7 +119,7 @@ impl<C: BoxedCore> BoxPart<C> {
     /// Does an action, or finds why it is refused. On an error nothing has changed.
     pub fn act(&mut self, number: u64, action: BoxAction) -> Result<Answer, Stop>
         requires { C.is_full ≡ true → FitsBox action }
-        ensures { BoxActs self.old number (box_action action) result self.new }
+        ensures { BoxActs self.old number action result self.new }
     {
         match action {
             BoxAction::MakeBox(content) => self.make(number, content),

@@ -371,10 +371,9 @@ impl<C: SingleCore> MailboxPart<C> {
             channel: receiver.channel,
             polls: true,
         };
-        let Ok(()) = self.receivers.insert(number, future) else {
+        let Ok(()) = self.receivers.replace(r, number, future) else {
             return Err(Stop::NoMemory);
         };
-        let _ = self.receivers.remove(r);
         self.next = number as u128 + 1;
         Ok(Answer::Made)
     }

@@ -2,8 +2,8 @@ ghost use Rattle.std.specs.Prelude.{◌≡◌};
 ghost use Rattle.mea_chan_model.specs.Meaning.{meaning_of};
 ghost use Rattle.mea_chan.specs.Actions.{meant, FitsMeaning};
 
-use crate::actions::{BoundedAction, BoxAction, MailAction, OneshotAction, UnboundedAction};
-use mea_chan_broadcast::BroadcastAction;
+use crate::actions::{MailAction, OneshotAction, UnboundedAction};
+use mea_chan_model::{BoundedAction, BoxAction, BroadcastAction};
 use mea_events::ChanEvent;
 
 /// What a line does, and to channels or boxes of which kind.

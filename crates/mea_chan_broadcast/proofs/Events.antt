@@ -30,8 +30,11 @@ use Rattle.mea_broadcast_core.specs.Receives as cores
 use Rattle.mea_broadcast_core.specs.Receives.{Found}
 use Rattle.mea_chan_model.specs.Broadcasts as model
 use Rattle.mea_chan_model.specs.Broadcasts.{Broadcasts, Broadcast, Listener, of_hearing, is_broadcast, is_sender, is_hearing, is_over, tidied, stands, registered, ring_size, new_broadcast, senders_in, tail_in, channel_of}
-use Rattle.mea_chan_model.specs.BroadcastActions.{BroadcastAction, Open, AddSender, SendAll, EndSender, Subscribe, Resubscribe, CopyReceiver, Hear, EndReceiver, BeginHear, PollHear, EndHear, most_senders, last_tail, most_size, unusable, broadcast_cause, broadcast_act}
+use Rattle.mea_chan_model.specs.declared.broadcast_action.BroadcastAction.{BroadcastAction}
+use Rattle.mea_chan_model.specs.declared.broadcast_action.BroadcastAction.TheVariants.{Open, AddSender, SendAll, EndSender, Subscribe, Resubscribe, CopyReceiver, Hear, EndReceiver, BeginHear, PollHear, EndHear}
+use Rattle.mea_chan_model.specs.BroadcastActions.{most_senders, last_tail, most_size, unusable, broadcast_cause, broadcast_act}
 use Rattle.mea_chan_model.specs.BroadcastValid.{AreKept, AreHeard, Hears, of_listener}
+use Rattle.mea_chan_model.proofs.Acting.{known_but}
 use Rattle.mea_chan_model.proofs.BroadcastActing.{fresh_channel, fresh_receiver, fresh_future, fresh_sender, over_none, joins}
 use Rattle.mea_chan_model.proofs.OneBroadcast.{sender_less}
 use Rattle.mea_chan_model.proofs.BroadcastWakes.{kept_after, none_kept}
@@ -163,15 +166,8 @@ module _ {old : Part Broadcasts} {i : ℕ} (s : Site old i) where
   pub futures_channel : (f : ℕ) (y : RecvEntry) → get s.ys f ≡ Some y → IsSome (get s.es y.channel)
   futures_channel f y there = seen-some_back broadcast_seen s.es y.channel (s.kept.valid.futures.at f (hearing_seen y) (seen-at hearing_seen s.ys f y there)).1
 
-  pub future_there : (f : ℕ) → is_hearing old.hall f ≡ true → IsSome (get s.ys f)
-  future_there f is = seen-some_back hearing_seen s.ys f (ap (λ (p : Part Broadcasts). is_hearing p.hall f) s.view ∙ is)
-
   pub copier_there : (k : ℕ) → broadcast_cause old.hall (AddSender k) ≡ None → IsSome (get s.ss k)
-  copier_there k allowed = sender_there k (at (is_sender old.hall k) refl allowed)
-    where
-      at : (b : Bool) → is_sender old.hall k ≡ b → (if b then (if senders_in (channel_of old.hall (get old.hall.senders k)) == most_senders then Some stops.Overflow else None) else Some stops.Unknown) ≡ None → is_sender old.hall k ≡ true
-      at true is says = is
-      at false is says = absurd (cc)
+  copier_there k allowed = sender_there k (known_but (is_sender old.hall k) (senders_in (channel_of old.hall (get old.hall.senders k)) == most_senders) stops.Overflow allowed)
 
   usable_there : (r : ℕ) → unusable (get (seen listener_seen s.xs) r) ≡ None → IsSome (get s.xs r)
   usable_there r is = seen-some_back listener_seen s.xs r (at (get (seen listener_seen s.xs) r) is)
@@ -225,31 +221,22 @@ module _ {old : Part Broadcasts} {i : ℕ} (s : Site old i) where
     over_there e' = is_there _ e' (get-there s.es o e')
 
     -- ---- the channel is e' now, or gone where that is over
-    module _ (e' : BroadcastEntry) (over : Bool) (is_it : is_over (broadcast_seen e') ≡ over) where
-      seen_tidied : seen broadcast_seen (if over then remove (insert s.es o e') o else insert s.es o e') ≡ tidied (seen broadcast_seen s.es) o (broadcast_seen e')
-      seen_tidied = at over is_it
-        where
-          at : (b : Bool) → is_over (broadcast_seen e') ≡ b → seen broadcast_seen (if b then remove (insert s.es o e') o else insert s.es o e') ≡ (if is_over (broadcast_seen e') then remove (seen broadcast_seen s.es) o else insert (seen broadcast_seen s.es) o (broadcast_seen e'))
-          at true is = ap (seen broadcast_seen) (put_gone s.es o e') ∙ seen-remove broadcast_seen s.es o ∙ sym (if_true (is_over (broadcast_seen e')) (remove (seen broadcast_seen s.es) o) (insert (seen broadcast_seen s.es) o (broadcast_seen e')) is)
-          at false is = seen-insert broadcast_seen s.es o e' ∙ sym (if_false (is_over (broadcast_seen e')) (remove (seen broadcast_seen s.es) o) (insert (seen broadcast_seen s.es) o (broadcast_seen e')) is)
+    module _ (e' : BroadcastEntry) where
+      seen_tidied : (over : Bool) → is_over (broadcast_seen e') ≡ over → seen broadcast_seen (if over then remove (insert s.es o e') o else insert s.es o e') ≡ tidied (seen broadcast_seen s.es) o (broadcast_seen e')
+      seen_tidied true is = ap (seen broadcast_seen) (put_gone s.es o e') ∙ seen-remove broadcast_seen s.es o ∙ sym (if_true (is_over (broadcast_seen e')) (remove (seen broadcast_seen s.es) o) (insert (seen broadcast_seen s.es) o (broadcast_seen e')) is)
+      seen_tidied false is = seen-insert broadcast_seen s.es o e' ∙ sym (if_false (is_over (broadcast_seen e')) (remove (seen broadcast_seen s.es) o) (insert (seen broadcast_seen s.es) o (broadcast_seen e')) is)
 
-      tidied_links : SetLinked e'.core.waiting (slots_of o s.ys) (i + 1) → e'.core.wakes ≡ [] → AreLinked (if over then remove (insert s.es o e') o else insert s.es o e') s.ys (i + 1)
-      tidied_links linked quiet = at over
-        where
-          at : (b : Bool) → AreLinked (if b then remove (insert s.es o e') o else insert s.es o e') s.ys (i + 1)
-          at true = subst (λ es. AreLinked es s.ys (i + 1)) (sym (put_gone s.es o e')) (links_gone s.es s.ys s.next i s.kept.links s.later o s.ys Stays)
-          at false = links_turned s.es s.ys s.next i s.kept.links s.later o s.ys Stays e' linked quiet
+      tidied_links : (over : Bool) → SetLinked e'.core.waiting (slots_of o s.ys) (i + 1) → e'.core.wakes ≡ [] → AreLinked (if over then remove (insert s.es o e') o else insert s.es o e') s.ys (i + 1)
+      tidied_links true linked quiet = subst (λ es. AreLinked es s.ys (i + 1)) (sym (put_gone s.es o e')) (links_gone s.es s.ys s.next i s.kept.links s.later o s.ys Stays)
+      tidied_links false linked quiet = links_turned s.es s.ys s.next i s.kept.links s.later o s.ys Stays e' linked quiet
 
-      kept_tidied : (is_over (broadcast_seen e') ≡ true → kept_by e'.core ≡ 0) → kept_in (if over then remove (insert s.es o e') o else insert s.es o e') + kept_by e.core ≡ kept_in s.es + kept_by e'.core
-      kept_tidied none = at over is_it
-        where
-          at : (b : Bool) → is_over (broadcast_seen e') ≡ b → kept_in (if b then remove (insert s.es o e') o else insert s.es o e') + kept_by e.core ≡ kept_in s.es + kept_by e'.core
-          at true is =
-              let here : weight (λ o (e : BroadcastEntry). kept_by e.core) o (get s.es o) ≡ kept_by e.core = ap (weight (λ o (e : BroadcastEntry). kept_by e.core) o) there in
-              let gone : kept_in (remove (insert s.es o e') o) ≡ kept_in (remove s.es o) = ap kept_in (put_gone s.es o e') in
-              let nobody = none is in
-              omega (arith, gone, nobody, here, total-remove (λ o (e : BroadcastEntry). kept_by e.core) s.es o)
-          at false is = kept_now e'
+      kept_tidied : (over : Bool) → is_over (broadcast_seen e') ≡ over → (is_over (broadcast_seen e') ≡ true → kept_by e'.core ≡ 0) → kept_in (if over then remove (insert s.es o e') o else insert s.es o e') + kept_by e.core ≡ kept_in s.es + kept_by e'.core
+      kept_tidied true is none =
+          let here : weight (λ o (e : BroadcastEntry). kept_by e.core) o (get s.es o) ≡ kept_by e.core = ap (weight (λ o (e : BroadcastEntry). kept_by e.core) o) there in
+          let gone : kept_in (remove (insert s.es o e') o) ≡ kept_in (remove s.es o) = ap kept_in (put_gone s.es o e') in
+          let nobody = none is in
+          omega (arith, gone, nobody, here, total-remove (λ o (e : BroadcastEntry). kept_by e.core) s.es o)
+      kept_tidied false is none = kept_now e'
 
     -- ---- a receiver is made
     module _ (x : ListenerEntry) (mine : x.channel ≡ o) (free : x.user ≡ None) where
@@ -348,11 +335,7 @@ module _ {old : Part Broadcasts} {i : ℕ} (s : Site old i) where
     full_as v last = sym (full_is v) ∙ ap (λ b. if b then Some stops.Overflow else None) (eq-eqb e.core.tail last_tail last)
 
     pub may_send : (v : ℕ) → (e.core.tail ≡ last_tail → ⊥) → broadcast_cause old.hall (SendAll k v) ≡ None
-    may_send v more = sym (full_is v) ∙ at (e.core.tail == last_tail) refl
-      where
-        at : (b : Bool) → (e.core.tail == last_tail) ≡ b → (if b then Some stops.Overflow else None) ≡ None
-        at true is = absurd (more (eqb-true e.core.tail last_tail is))
-        at false is = refl
+    may_send v more = sym (full_is v) ∙ (elim (e.core.tail == last_tail) as (λ b. (e.core.tail == last_tail) ≡ b → (if b then Some stops.Overflow else None) ≡ None) [ true ↦ λ is. absurd (more (eqb-true e.core.tail last_tail is)) | false ↦ λ is. refl ] refl)
 
     pub copied : i < 2 ^ 64 → (core' : NamedBroadcast) → core' ≡ record e.core { senders = e.core.senders + 1 } → (ss' : Names ℕ) → ss' ≡ insert s.ss i o → broadcast_cause old.hall (AddSender k) ≡ None
         → (AreKeptBroadcasts (insert s.es o (record e { core = core' })) ss' s.xs s.ys (i + 1)) × PartRests registered old i (broadcast_act old.hall i (AddSender k)) answers.Made (part_of (insert s.es o (record e { core = core' })) ss' s.xs s.ys (i + 1))
@@ -367,9 +350,9 @@ module _ {old : Part Broadcasts} {i : ℕ} (s : Site old i) where
     drained_still : SetLinked (record { wakers = []; drains = e.core.waiting.drains + 1 }) (slots_of o s.ys) (i + 1)
     drained_still = drained_links e.core.waiting (slots_of o s.ys) (i + 1) (linked_still o e there)
 
-    module _ (core' : NamedBroadcast) (before after : Waking ℕ) where
-      pub sent : i < 2 ^ 64 → (v : ℕ) → broadcast_cause old.hall (SendAll k v) ≡ None → HandsOn e.core (after_send e.core v) core' before after
-          → (AreKeptBroadcasts (insert s.es o (record e { core = core' })) s.ss s.xs s.ys (i + 1)) × PartYields registered old i (broadcast_act old.hall i (SendAll k v)) answers.Done (part_of (insert s.es o (record e { core = core' })) s.ss s.xs s.ys (i + 1)) before after
+    module _ (e' : BroadcastEntry) (before after : Waking ℕ) where
+      pub sent : i < 2 ^ 64 → (v : ℕ) → broadcast_cause old.hall (SendAll k v) ≡ None → HandsOn e (after_send e.core v) e' before after
+          → (AreKeptBroadcasts (insert s.es o e') s.ss s.xs s.ys (i + 1)) × PartYields registered old i (broadcast_act old.hall i (SendAll k v)) answers.Done (part_of (insert s.es o e') s.ss s.xs s.ys (i + 1)) before after
       sent fits v allowed settles =
           let d : BroadcastEntry = record e { core = handed_on (after_send e.core v) } in
           let now = kept_now o e there (record e { core = handed_on (after_send e.core v) }) in
@@ -378,25 +361,21 @@ module _ {old : Part Broadcasts} {i : ℕ} (s : Site old i) where
           (links_turned s.es s.ys s.next i s.kept.links s.later o s.ys Stays (record e { core = handed_on (after_send e.core v) }) drained_still refl) before after
           (settles.wakers ∙ ap (λ ws. before.wakers ++ ws) (woken_sent e.core e.receivers v (its_quiet o e there))) (omega (arith, now, settles.counted)))
 
-      pub sender_ended : i < 2 ^ 64 → (ss' : Names ℕ) → ss' ≡ remove s.ss k → (over : Bool) → is_over (core_seen core' e.receivers) ≡ over → HandsOn e.core (without_sender e.core) core' before after
-          → (AreKeptBroadcasts (if over then remove (insert s.es o (record e { core = core' })) o else insert s.es o (record e { core = core' })) ss' s.xs s.ys (i + 1))
-          × PartYields registered old i (broadcast_act old.hall i (EndSender k)) answers.Done (part_of (if over then remove (insert s.es o (record e { core = core' })) o else insert s.es o (record e { core = core' })) ss' s.xs s.ys (i + 1)) before after
+      pub sender_ended : i < 2 ^ 64 → (ss' : Names ℕ) → ss' ≡ remove s.ss k → (over : Bool) → is_over (broadcast_seen e') ≡ over → HandsOn e (without_sender e.core) e' before after
+          → (AreKeptBroadcasts (if over then remove (insert s.es o e') o else insert s.es o e') ss' s.xs s.ys (i + 1))
+          × PartYields registered old i (broadcast_act old.hall i (EndSender k)) answers.Done (part_of (if over then remove (insert s.es o e') o else insert s.es o e') ss' s.xs s.ys (i + 1)) before after
       sender_ended fits ss' gone over is_it settles =
           let d : BroadcastEntry = record e { core = handed_on (without_sender e.core) } in
-          let over_now : is_over (broadcast_seen (record e { core = handed_on (without_sender e.core) })) ≡ over = ap (λ b. is_over (core_seen b e.receivers)) (sym settles.entry) ∙ is_it in
+          let over_now : is_over (broadcast_seen (record e { core = handed_on (without_sender e.core) })) ≡ over = ap (λ d. is_over (broadcast_seen d)) (sym settles.entry) ∙ is_it in
           let now = kept_tidied o e there (record e { core = handed_on (without_sender e.core) }) over over_now (λ over. silent_over over) in
           rw (settles.entry, gone) (yields_as fits (EndSender k) (if_true (is_some (get s.ss k)) None (Some stops.Unknown) (ap is_some sender)) (model.end_sender h k o (broadcast_seen e)) (found_sender (model.end_sender h k)) answers.Done refl
           (if over then remove (insert s.es o (record e { core = handed_on (without_sender e.core) })) o else insert s.es o (record e { core = handed_on (without_sender e.core) })) (remove s.ss k) s.xs s.ys
           (seen_tidied o e there (record e { core = handed_on (without_sender e.core) }) over over_now ∙ ap (tidied (seen broadcast_seen s.es) o) (seen_less e.core e.receivers)) refl refl refl
-          (tidied_links o e there (record e { core = handed_on (without_sender e.core) }) over over_now less_linked refl) before after
+          (tidied_links o e there (record e { core = handed_on (without_sender e.core) }) over less_linked refl) before after
           (settles.wakers ∙ ap (λ ws. before.wakers ++ ws) (woken_less e.core e.receivers (its_quiet o e there))) (omega (arith, now, settles.counted)))
         where
           less_linked : SetLinked (without_sender e.core).waiting (slots_of o s.ys) (i + 1)
-          less_linked = at (e.core.senders == 1)
-            where
-              at : (b : Bool) → SetLinked (if b then woken (record e.core { senders = 0 }) else record e.core { senders = e.core.senders - 1 }).waiting (slots_of o s.ys) (i + 1)
-              at true = drained_still
-              at false = linked_still o e there
+          less_linked = elim (e.core.senders == 1) as (λ b. SetLinked (if b then woken (record e.core { senders = 0 }) else record e.core { senders = e.core.senders - 1 }).waiting (slots_of o s.ys) (i + 1)) [ true ↦ drained_still | false ↦ linked_still o e there ]
 
           silent_over : is_over (broadcast_seen (record e { core = handed_on (without_sender e.core) })) ≡ true → kept_by (without_sender e.core) ≡ 0
           silent_over over = none_kept_by (record e { core = handed_on (without_sender e.core) }) (subst (λ c. AreHeard c (own of_listener o (seen listener_seen s.xs)) (own of_hearing o (seen hearing_seen s.ys))) (sym (seen_less e.core e.receivers)) (sender_less (broadcast_seen e) _ _ (its_heard o e there))).silent over
@@ -461,7 +440,7 @@ module _ {old : Part Broadcasts} {i : ℕ} (s : Site old i) where
           rw gone (rests_as fits (EndReceiver r) (usable_here r usable) (model.end_receiver h r x.channel (broadcast_seen e)) (found_receiver (λ x c. model.end_receiver h r x.channel c)) answers.Done refl
           (if over then remove (insert s.es x.channel (record e { receivers = e.receivers - 1 })) x.channel else insert s.es x.channel (record e { receivers = e.receivers - 1 })) s.ss (remove s.xs r) s.ys
           (seen_tidied x.channel e there (record e { receivers = e.receivers - 1 }) over is_it) refl (seen-remove listener_seen s.xs r) refl
-          (tidied_links x.channel e there (record e { receivers = e.receivers - 1 }) over is_it (linked_still x.channel e there) (its_quiet x.channel e there)) refl (omega (arith, now)))
+          (tidied_links x.channel e there (record e { receivers = e.receivers - 1 }) over (linked_still x.channel e there) (its_quiet x.channel e there)) refl (omega (arith, now)))
 
       pub some_receiver : 0 < e.receivers
       some_receiver = let count = (its_heard x.channel e there).receivers in let one = len-some (own of_listener x.channel (seen listener_seen s.xs)) r (listener_seen x) (own-at of_listener x.channel (seen listener_seen s.xs) r (listener_seen x) seen_receiver refl) in omega (arith, count, one)

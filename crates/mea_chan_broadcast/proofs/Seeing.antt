@@ -1,5 +1,5 @@
 -- what is seen of the core of a broadcast channel, after each of its calls
-use Rattle.std.proofs.Common.{◌≡◌, ℕ, zero, suc, ◌+◌, ◌-◌, ◌*◌, ◌^◌, ◌/◌, ◌<◌, ◌≤◌, ◌==◌, ◌++◌, Bool, true, false, [], ◌∷◌, length, map, max, nat_lt, nat_le, slice_get, Option, Some, None, if◌then◌else◌, refl, ap, sym, subst, ◌∙◌, arith}
+use Rattle.std.proofs.Common.{◌≡◌, ℕ, zero, suc, ◌+◌, ◌-◌, ◌*◌, ◌^◌, ◌/◌, ◌<◌, ◌≤◌, ◌==◌, ◌++◌, Bool, true, false, [], length, map, max, nat_lt, nat_le, slice_get, Option, Some, None, if◌then◌else◌, refl, ap, sym, subst, ◌∙◌, arith}
 use Rattle.std.specs.Int.{IsNextPowerOfTwo}
 use native.Mathlib.Nat.{pow-suc, pow-le-pow_right}
 use Rattle.std.proofs.lemmas.Bool.Decides.{nat_tests}
@@ -15,16 +15,13 @@ use Rattle.mea_broadcast_core.specs.Broadcast.{oldest, after_send, without_sende
 use Rattle.mea_broadcast_core.specs.Receives as cores
 use Rattle.mea_broadcast_core.specs.Receives.{Found, found, found_at}
 use Rattle.mea_chan_model.specs.Broadcasts as model
-use Rattle.mea_chan_model.specs.Broadcasts.{Stands, Behind, Holds, AtTail, stands, stands_at, with_message, less_sender, woken_by_end, power_from, ring_size}
+use Rattle.mea_chan_model.specs.Broadcasts.{Stands, Behind, Holds, AtTail, stands, stands_at, less_sender, woken_by_end, power_from, ring_size}
 use Rattle.mea_chan_broadcast.specs.declared.broadcast_entry.BroadcastEntry.{BroadcastEntry}
 use Rattle.mea_chan_broadcast.specs.BroadcastCores.{NamedBroadcast, kept_by, handed_on}
 use Rattle.mea_chan_broadcast.specs.BroadcastParts.{core_seen, broadcast_seen}
 
 -- ---- the calls
 module _ (b : NamedBroadcast) (n : ℕ) where
-  pub seen_sent : (v : ℕ) → core_seen (handed_on (after_send b v)) n ≡ with_message (core_seen b n) v
-  seen_sent v = refl
-
   pub seen_less : core_seen (handed_on (without_sender b)) n ≡ less_sender (core_seen b n)
   seen_less = at (b.senders == 1)
     where
@@ -52,10 +49,6 @@ module _ (b : NamedBroadcast) (n : ℕ) where
   pub stands_is : (p : ℕ) → stands (core_seen b n) p ≡ as_stands (found b p)
   stands_is p = at (nat_lt p (oldest b)) (slice_get b.kept (p - oldest b))
     where
-      at_kept : (o : Option ℕ) → stands_at o ≡ as_stands (found_at o)
-      at_kept None = refl
-      at_kept (Some v) = refl
-
       at : (t : Bool) (o : Option ℕ) → (if t then Behind (oldest b - p) else stands_at o) ≡ as_stands (if t then cores.Behind (oldest b - p) else found_at o)
       at true o = refl
       at false None = refl

@@ -9,6 +9,7 @@ use Rattle.mea_sets.specs.WaitSet.{with_waker, slot_after}
 use Rattle.mea_broadcast_core.specs.Broadcast as cores
 use Rattle.mea_broadcast_core.specs.Broadcast.{oldest}
 use Rattle.mea_broadcast_core.specs.Receives.{Found, Behind, Holds, AtTail}
+use Rattle.mea_chan_broadcast.specs.declared.broadcast_entry.BroadcastEntry.{BroadcastEntry}
 
 -- a broadcast channel whose wakers carry the names of their futures
 abbrev pub NamedBroadcast : Type 0
@@ -22,11 +23,11 @@ kept_by b = length b.waiting.wakers
 abbrev pub handed_on : NamedBroadcast → NamedBroadcast
 handed_on b = record b { wakes = [] }
 
--- the channel became this; its wakers were handed on, and as many are registered as it keeps
-pub record HandsOn (old b new : NamedBroadcast) (before after : Waking ℕ) : Type 0 where
-  pub entry : new ≡ handed_on b
+-- the core became this; its wakers were handed on, and as many are registered as it keeps
+pub record HandsOn (old : BroadcastEntry) (b : NamedBroadcast) (new : BroadcastEntry) (before after : Waking ℕ) : Type 0 where
+  pub entry : new ≡ record old { core = handed_on b }
   pub wakers : after.wakers ≡ before.wakers ++ map (λ (k : NamedWaker). k.waker) b.wakes
-  pub counted : after.registered + kept_by old ≡ before.registered + kept_by b
+  pub counted : after.registered + kept_by old.core ≡ before.registered + kept_by b
 
 -- what a receiver is told, where this stands at its cursor, and where the cursor is then
 abbrev pub heard_told : NamedBroadcast → Found ℕ → Answer

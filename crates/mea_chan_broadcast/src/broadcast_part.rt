@@ -4,20 +4,19 @@ ghost use Rattle.mea_family.specs.Family.{is_pending};
 ghost use Rattle.mea_family.specs.Play.{PartRests};
 ghost use Rattle.std.specs.Int.{IsNextPowerOfTwo};
 ghost use Rattle.mea_broadcast_core.specs.Broadcast.{IsFresh};
-ghost use Rattle.mea_chan_model.specs.Broadcasts.{Broadcast, join, no_broadcasts, is_broadcast, is_sender, is_hearing, is_over, registered};
-ghost use Rattle.mea_chan_model.specs.BroadcastActions.{broadcast_cause, broadcast_act, unusable, Open, AddSender, SendAll, EndSender, Subscribe, Resubscribe, CopyReceiver, Hear, EndReceiver, BeginHear, PollHear, EndHear};
-ghost use Rattle.mea_chan_broadcast.specs.Actions.{broadcast_action, BroadcastActs, BroadcastActsQuietly};
+ghost use Rattle.mea_chan_model.specs.Broadcasts.{Broadcast, join, no_broadcasts, is_broadcast, is_sender, is_hearing, registered};
+ghost use Rattle.mea_chan_model.specs.declared.broadcast_action.BroadcastAction.TheVariants.{Open, AddSender, SendAll, EndSender, Subscribe, Resubscribe, CopyReceiver, Hear, EndReceiver, BeginHear, PollHear, EndHear};
+ghost use Rattle.mea_chan_model.specs.BroadcastActions.{broadcast_cause, broadcast_act, unusable};
+ghost use Rattle.mea_chan_broadcast.specs.Actions.{BroadcastActs, BroadcastActsQuietly};
 ghost use Rattle.mea_chan_broadcast.specs.BroadcastLends.{StandsForBroadcast};
-ghost use Rattle.mea_chan_broadcast.specs.BroadcastParts.{broadcast_seen};
 
-use crate::broadcast_action::BroadcastAction;
-use crate::broadcast_calls;
 use crate::broadcast_entry::BroadcastEntry;
 use crate::listener_entry::ListenerEntry;
 use crate::recv_entry::RecvEntry;
 use mea_base::Ready;
 use mea_broadcast_core::{BroadcastCore, Cursor, RecvWait};
 use mea_by_name::{ByName, NamedWaker};
+use mea_chan_model::BroadcastAction;
 use mea_family::{Answer, Stop, borrowed_if, overflow_if, unknown_unless};
 use std::alloc::Global;
 use std::marker::Model;
@@ -77,7 +76,7 @@ impl BroadcastPart {
 
     /// Why an action is refused; None where it is not. It takes no memory.
     pub fn cause(&self, action: BroadcastAction) -> Option<Stop>
-        ensures { result ≡ broadcast_cause self.now.hall (broadcast_action action) }
+        ensures { result ≡ broadcast_cause self.now.hall action }
     {
         match action {
             BroadcastAction::Open(n) => cause_of_size(n),
@@ -106,7 +105,7 @@ impl BroadcastPart {
     ) -> Result<Answer, Stop>
         requires next { self.old.next ≤ number }
         requires room { registered self.old.hall ≤ ready.old.registered }
-        ensures { BroadcastActs self.old number (broadcast_action action) result self.new ready.old ready.new }
+        ensures { BroadcastActs self.old number action result self.new ready.old ready.new }
     {
         match action {
             BroadcastAction::Open(n) => self.make(number, n),
@@ -250,7 +249,7 @@ impl BroadcastPart {
         if entry.core.tail() == u64::MAX {
             return Err(Stop::Overflow);
         }
-        broadcast_calls::send(&mut entry.core, message, ready);
+        entry.send(message, ready);
         self.next = number as u128 + 1;
         Ok(Answer::Done)
     }
@@ -265,8 +264,8 @@ impl BroadcastPart {
             return Err(Stop::Unknown);
         };
         let entry = self.channels.at_mut(o);
-        broadcast_calls::end_sender(&mut entry.core, ready);
-        let over = is_over(entry);
+        entry.end_sender(ready);
+        let over = entry.is_over();
         self.channels.remove_if(o, over);
         self.next = number as u128 + 1;
         Ok(Answer::Done)
@@ -343,8 +342,11 @@ impl BroadcastPart {
         if receiver.user.is_some() {
             return Err(Stop::Borrowed);
         }
-        let core = &self.channels.at(receiver.channel).core;
-        let Ok(answer) = broadcast_calls::hear(core, &mut receiver.cursor) else {
+        let Ok(answer) = self
+            .channels
+            .at(receiver.channel)
+            .hear(&mut receiver.cursor)
+        else {
             return Err(Stop::NoMemory);
         };
         self.next = number as u128 + 1;
@@ -362,7 +364,7 @@ impl BroadcastPart {
         let o = self.receivers.remove(r).channel;
         let entry = self.channels.at_mut(o);
         entry.receivers -= 1;
-        let over = is_over(entry);
+        let over = entry.is_over();
         self.channels.remove_if(o, over);
         self.next = number as u128 + 1;
         Ok(Answer::Done)
@@ -410,13 +412,7 @@ impl BroadcastPart {
         };
         let receiver = self.receivers.at_mut(future.receiver);
         let entry = self.channels.at_mut(future.channel);
-        let Ok(answer) = broadcast_calls::poll(
-            &mut entry.core,
-            &mut receiver.cursor,
-            &mut future.wait,
-            waker,
-            ready,
-        ) else {
+        let Ok(answer) = entry.poll(&mut receiver.cursor, &mut future.wait, waker, ready) else {
             return Err(Stop::NoMemory);
         };
         let over = is_answered(answer);
@@ -453,13 +449,6 @@ fn cause_of_size(size: u64) -> Option<Stop>
     } else {
         None
     }
-}
-
-// Whether no sender and no receiver is left.
-fn is_over(entry: &BroadcastEntry) -> bool
-    ensures { result ≡ is_over (broadcast_seen entry.now) }
-{
-    entry.core.senders() == 0 && entry.receivers == 0
 }
 
 // Whether a future has its answer.

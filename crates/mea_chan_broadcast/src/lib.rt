@@ -2,12 +2,9 @@
 //! the hall of channels. It is proved against the model of `mea_chan_model`, and knows the cores by their contracts alone.
 #![tactic(auto)]
 
-mod broadcast_action;
-mod broadcast_calls;
 mod broadcast_entry;
 mod broadcast_part;
 mod listener_entry;
 mod recv_entry;
 
-pub use broadcast_action::BroadcastAction;
 pub use broadcast_part::BroadcastPart;

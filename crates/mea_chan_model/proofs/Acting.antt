@@ -5,6 +5,8 @@ use Rattle.std.specs.FinMap.{get, insert, remove}
 use Rattle.std.proofs.lemmas.Bool.{eqb-true, eqb-false, eq-eqb}
 use Rattle.std.proofs.lemmas.List.Elements.{Contains-push}
 use Rattle.mea_family.specs.declared.answer.Answer.TheVariants as answers
+use Rattle.mea_family.specs.declared.stop.Stop.{Stop}
+use Rattle.mea_family.specs.declared.stop.Stop.TheVariants as stops
 use Rattle.mea_family.specs.Family.{Outcome, quietly}
 use Rattle.mea_base.proofs.Maps.{get-gone, get-other}
 use Rattle.mea_by_name.specs.ByName.{Names}
@@ -13,6 +15,11 @@ use Rattle.mea_by_name.proofs.Cases.{by_found, by_if}
 use Rattle.mea_chan_model.specs.Mailboxes as mailboxes
 use Rattle.mea_chan_model.specs.Mailboxes.{Mailbox, Mailboxes, Receiver, new_mailbox, kept, waker_in, woken, is_over, tidied_channels, with_message, woken_by_send, without_senders, less_sender, woken_by_end, without_receiver}
 use Rattle.mea_chan_model.specs.MailboxActions.{Action, Make, Copy, Send, SendLast, EndSender, Receive, Poll, EndReceiver, Turn, TellClosed, TellOver, TellMessage, act_in, registers_in, polled_in, ends_in}
+
+-- what has no cause is known, where it may be refused for another too
+pub known_but : (known other : Bool) (stop : Stop) → (if known then (if other then Some stop else None) else Some stops.Unknown) ≡ None → known ≡ true
+known_but true other stop is = refl
+known_but false other stop is = absurd (cc)
 
 -- ---- one channel
 
@@ -49,11 +56,7 @@ after cs o None = remove cs o
 after cs o (Some c) = insert cs o c
 
 pub left_is : (cs : Names Mailbox) (o : ℕ) (c : Mailbox) → tidied_channels cs o c ≡ after cs o (left c)
-left_is cs o c = at (is_over c)
-  where
-    at : (b : Bool) → (if b then remove cs o else insert cs o c) ≡ after cs o (if b then None else Some c)
-    at true = refl
-    at false = refl
+left_is cs o c = elim (is_over c) as (λ b. (if b then remove cs o else insert cs o c) ≡ after cs o (if b then None else Some c)) [ true ↦ refl | false ↦ refl ]
 
 left_becomes : (c c' : Mailbox) (ws : List ℕ) (extra : ℕ) → Becomes c (Some c') ws extra → Becomes c (left c') ws extra
 left_becomes c c' ws extra is = by_if (λ p. Becomes c p ws extra) (is_over c') None (Some c') (λ over. record { fits = omega (arith, is.fits); most = is.most; awake = λ awake. tt }) (λ stays. is)
@@ -89,11 +92,7 @@ sent_becomes c v = at c.ended
     at false = all_woken c (record c { queued = c.queued ++ v ∷ []; waker = None }) refl
 
 sent_keeps : (c : Mailbox) (v : ℕ) → Keeps c (Some (with_message c v)) (woken_by_send c)
-sent_keeps c v awake w is = at c.ended
-  where
-    at : (b : Bool) → (waker_in (Some (if b then c else record c { queued = c.queued ++ v ∷ []; waker = None })) ≡ Some w) ⊎ Contains (if b then [] else woken c) w
-    at true = inl is
-    at false = inr (contained c.waker w is)
+sent_keeps c v awake w is = elim c.ended as (λ b. (waker_in (Some (if b then c else record c { queued = c.queued ++ v ∷ []; waker = None })) ≡ Some w) ⊎ Contains (if b then [] else woken c) w) [ true ↦ inl is | false ↦ inr (contained c.waker w is) ]
 
 less_becomes : (c : Mailbox) → Becomes c (Some (less_sender c)) (woken_by_end c) 0
 less_becomes c = at (c.senders == 1) refl
@@ -103,11 +102,8 @@ less_becomes c = at (c.senders == 1) refl
     at false is = record {
       fits = omega arith;
       most = omega arith;
-      awake = λ awake. record { waits = λ w kept. let some = (awake.waits w kept).1 in let more = eqb-false c.senders 1 is in ((awake.waits w kept).0, at_least c.senders some more) };
+      awake = λ awake. record { waits = λ w kept. let some = (awake.waits w kept).1 in let more = eqb-false c.senders 1 is in ((awake.waits w kept).0, omega (arith, some, more)) };
     }
-      where
-        at_least : (n : ℕ) → 0 < n → (n ≡ 1 → ⊥) → 0 < n - 1
-        at_least n some more = omega (arith, some, more)
 
 less_keeps : (c : Mailbox) → Keeps c (left (less_sender c)) (woken_by_end c)
 less_keeps c awake w is = at (c.senders == 1) refl
@@ -125,10 +121,7 @@ received_becomes : (c : Mailbox) (v : ℕ) (rest : List ℕ) → c.queued ≡ v 
 received_becomes c v rest queue = record { fits = omega arith; most = omega arith; awake = λ awake. record { waits = λ w is. absurd (let none = sym queue ∙ (awake.waits w is).0 in cc) } }
 
 waits_becomes : (c : Mailbox) (w : ℕ) → c.queued ≡ [] → (c.senders == 0) ≡ false → Becomes c (Some (record c { waker = Some w })) [] 1
-waits_becomes c w queue some = record { fits = omega arith; most = omega arith; awake = λ awake. record { waits = λ v is. (queue, at_least c.senders (eqb-false c.senders 0 some)) } }
-  where
-    at_least : (n : ℕ) → (n ≡ 0 → ⊥) → 0 < n
-    at_least n more = omega (arith, more)
+waits_becomes c w queue some = record { fits = omega arith; most = omega arith; awake = λ awake. record { waits = λ v is. (queue, let more = eqb-false c.senders 0 some in omega (arith, more)) } }
 
 ended_becomes : (c : Mailbox) (falls : Bool) → Becomes c (Some (without_receiver falls c)) [] 0
 ended_becomes c true = record { fits = omega arith; most = omega arith; awake = λ awake. record { waits = λ w is. absurd (no_waker w is) } }

@@ -5,12 +5,13 @@ use Rattle.std.specs.Ordering.{nat_cmp}
 use Rattle.std.specs.FinMap.{get, insert, remove, len, len-empty}
 use Rattle.std.proofs.lemmas.Bool.{eqb-true}
 use Rattle.mea_family.specs.declared.stop.Stop.TheVariants as stops
-use Rattle.mea_base.proofs.Maps.{by_put, by_gone, get-there, is_there, inside, removed_there}
+use Rattle.mea_base.proofs.Maps.{by_put, by_gone, get-there, is_there, inside, none_if, removed_there}
 use Rattle.mea_base.proofs.Tests.{by_name}
 use Rattle.mea_by_name.specs.ByName.{Names, own, AreHome}
 use Rattle.mea_by_name.specs.NamedQueue.{waker_for, registering}
 use Rattle.mea_by_name.proofs.Cases.{by_if}
-use Rattle.mea_by_name.proofs.Own.{Moves, Stays, Comes, Goes as Leaves, moves_elsewhere, moves_home, own-at, own-put, own-gone, own-none, own-empty, own-nothing, len-new, len-gone, len-some}
+use Rattle.mea_by_name.proofs.Halls.{home_without, no_thing}
+use Rattle.mea_by_name.proofs.Own.{Moves, Stays, Comes, Goes as Leaves, moves_elsewhere, moves_home, own-at, own-put, own-gone, own-none, own-empty, len-new, len-gone, len-some}
 use Rattle.mea_by_name.proofs.NamedQueues.{registering-other}
 use Rattle.mea_chan_model.specs.Broadcasts as broadcasts
 use Rattle.mea_chan_model.specs.Broadcasts.{Broadcast, Broadcasts, Listener, Hearing, of_hearing, is_over, tidied, with_message, less_sender}
@@ -35,32 +36,16 @@ over_none c is = at (c.senders == 0) refl is
 -- ---- what is kept to, after an event at one channel
 module _ (h : Broadcasts) (n i : ℕ) (k : AreKept h n) (later : n ≤ i) where
   pub fresh_channel : get h.channels i ≡ None
-  fresh_channel = at (get h.channels i) refl
-    where
-      at : (p : Option Broadcast) → get h.channels i ≡ p → get h.channels i ≡ None
-      at None is = is
-      at (Some c) is = absurd (let low = (k.low i c is).0 in omega (arith, low, later))
+  fresh_channel = none_if (get h.channels i) (λ c is. absurd (let low = (k.low i c is).0 in omega (arith, low, later)))
 
   pub fresh_receiver : get h.receivers i ≡ None
-  fresh_receiver = at (get h.receivers i) refl
-    where
-      at : (p : Option Listener) → get h.receivers i ≡ p → get h.receivers i ≡ None
-      at None is = is
-      at (Some x) is = absurd (let low = (k.receivers.at i x is).0 in omega (arith, low, later))
+  fresh_receiver = no_thing of_listener h.channels h.receivers n i k.receivers later
 
   pub fresh_future : get h.futures i ≡ None
-  fresh_future = at (get h.futures i) refl
-    where
-      at : (p : Option Hearing) → get h.futures i ≡ p → get h.futures i ≡ None
-      at None is = is
-      at (Some y) is = absurd (let low = (k.futures.at i y is).0 in omega (arith, low, later))
+  fresh_future = no_thing of_hearing h.channels h.futures n i k.futures later
 
   pub fresh_sender : get h.senders i ≡ None
-  fresh_sender = at (get h.senders i) refl
-    where
-      at : (p : Option ℕ) → get h.senders i ≡ p → get h.senders i ≡ None
-      at None is = is
-      at (Some o) is = absurd (let low = (k.senders.at i o is).0 in omega (arith, low, later))
+  fresh_sender = no_thing of_itself h.channels h.senders n i k.senders later
 
   home_later : {X : Type 0} (owner : X → ℕ) (xs : Names X) → AreHome owner h.channels xs n → AreHome owner h.channels xs (i + 1)
   home_later owner xs home = record { at = λ j x is. (omega (arith, (home.at j x is).0, later), (home.at j x is).1) }
@@ -107,24 +92,15 @@ module _ (h : Broadcasts) (n i : ℕ) (k : AreKept h n) (later : n ≤ i) where
 
     -- the channel is gone, with all that was of it
     module _ (there : IsSome (get h.channels o)) (no_receivers : len (own of_listener o xs') ≡ 0) (no_futures : len (own of_hearing o ys') ≡ 0) (no_senders : len (own of_itself o ss') ≡ 0) where
-      home_without : {X : Type 0} (owner : X → ℕ) (zs : Names X) → AreHome owner h.channels zs (i + 1) → len (own owner o zs) ≡ 0 → AreHome owner (remove h.channels o) zs (i + 1)
-      home_without owner zs home none = record {
-        at = λ j x is. (
-          (home.at j x is).0,
-          by_gone h.channels o (λ q p. owner x ≡ q → IsSome (get h.channels q) → IsSome p)
-              (λ mine some. absurd (own-nothing owner o zs none j x is (sym mine))) (λ q apart mine some. some) (owner x) refl (home.at j x is).1,
-        );
-      }
-
       pub left : AreKept (record { channels = remove h.channels o; senders = ss'; receivers = xs'; futures = ys' }) (i + 1)
       left = record {
         heard = by_gone h.channels o (λ q p. (d : Broadcast) → p ≡ Some d → AreHeard d (own of_listener q xs') (own of_hearing q ys')) (λ d is. absurd (cc)) (λ q apart d is. heard_elsewhere q d apart is);
         served = by_gone h.channels o (λ q p. (d : Broadcast) → p ≡ Some d → d.senders ≡ len (own of_itself q ss')) (λ d is. absurd (cc)) (λ q apart d is. served_elsewhere q d apart is);
         low = λ q d is. let was = removed_there h.channels o q d is in (omega (arith, (k.low q d was).0, later), omega (arith, (k.low q d was).1, later));
         named = λ q d f w is waiting. let low = k.named q d f w (removed_there h.channels o q d is) waiting in omega (arith, low, later);
-        receivers = home_without of_listener xs' (moves_home of_listener h.channels h.channels o i n h.receivers xs' firsts later k.receivers there (λ q some. some)) no_receivers;
-        futures = home_without of_hearing ys' (moves_home of_hearing h.channels h.channels o i n h.futures ys' seconds later k.futures there (λ q some. some)) no_futures;
-        senders = home_without of_itself ss' (moves_home of_itself h.channels h.channels o i n h.senders ss' thirds later k.senders there (λ q some. some)) no_senders;
+        receivers = home_without of_listener h.channels xs' o (i + 1) (moves_home of_listener h.channels h.channels o i n h.receivers xs' firsts later k.receivers there (λ q some. some)) no_receivers;
+        futures = home_without of_hearing h.channels ys' o (i + 1) (moves_home of_hearing h.channels h.channels o i n h.futures ys' seconds later k.futures there (λ q some. some)) no_futures;
+        senders = home_without of_itself h.channels ss' o (i + 1) (moves_home of_itself h.channels h.channels o i n h.senders ss' thirds later k.senders there (λ q some. some)) no_senders;
       }
 
   -- ---- at a channel that is there
@@ -169,15 +145,11 @@ module _ (h : Broadcasts) (n i : ℕ) (k : AreKept h n) (later : n ≤ i) where
       sends v = turned o h.receivers h.futures h.senders Stays Stays Stays (with_message c v) small few (was_sent c xs ys heard v) (k.served o c there) (λ f w waiting. absurd (cc))
 
       pub ends_sender : AreKept (broadcasts.end_sender h s o c).hall (i + 1)
-      ends_sender = left_or_turned (less_sender c) h.receivers (remove h.senders s) Stays (Leaves s (λ x is. inside (sym is ∙ sender))) (at_most (c.senders == 1)) (sender_less c xs ys heard)
+      ends_sender = left_or_turned (less_sender c) h.receivers (remove h.senders s) Stays (Leaves s (λ x is. inside (sym is ∙ sender))) (by_if (λ (d : Broadcast). d.receivers ≤ c.receivers) (c.senders == 1) (record c { senders = 0; waiting = [] }) (record c { senders = c.senders - 1 }) (λ one. omega arith) (λ more. omega arith)) (sender_less c xs ys heard)
           (let less = len-gone (own of_itself o h.senders) s o (own-at of_itself o h.senders s o sender refl) in let all = ap (λ m. len m) (own-gone of_itself o h.senders s) in
           let some = len-some (own of_itself o h.senders) s o (own-at of_itself o h.senders s o sender refl) in one_less (c.senders == 1) refl (omega (arith, less, all, k.served o c there)))
           (λ f w. by_if (λ (d : Broadcast). waker_for d.waiting f ≡ Some w → f < i + 1) (c.senders == 1) (record c { senders = 0; waiting = [] }) (record c { senders = c.senders - 1 }) (λ one waiting. absurd (cc)) (λ more waiting. named_still f w waiting))
         where
-          at_most : (b : Bool) → (if b then record c { senders = 0; waiting = [] } else record c { senders = c.senders - 1 }).receivers ≤ c.receivers
-          at_most true = omega arith
-          at_most false = omega arith
-
           one_less : (b : Bool) → (c.senders == 1) ≡ b → len (own of_itself o (remove h.senders s)) ≡ c.senders - 1 → (if b then record c { senders = 0; waiting = [] } else record c { senders = c.senders - 1 }).senders ≡ len (own of_itself o (remove h.senders s))
           one_less true one is = let count = eqb-true c.senders 1 one in omega (arith, count, is)
           one_less false more is = sym is

@@ -1,5 +1,5 @@
 -- what each action on broadcast channels does to those who wait, and that it keeps what they keep to
-use Rattle.std.proofs.Common.{◌≡◌, ℕ, ◌+◌, ◌-◌, ◌<◌, ◌≤◌, ◌==◌, ◌⊎◌, Bool, true, false, cond, List, [], Option, Some, None, is_some, if◌then◌else◌, refl, ap, sym, subst, ◌∙◌, arith}
+use Rattle.std.proofs.Common.{◌≡◌, ℕ, ◌+◌, ◌-◌, ◌<◌, ◌≤◌, ◌==◌, ◌⊎◌, true, false, cond, List, [], Option, Some, None, is_some, if◌then◌else◌, refl, ap, sym, subst, ◌∙◌, arith}
 use Rattle.std.specs.Option.{IsSome}
 use Rattle.std.specs.Ordering.{nat_cmp}
 use Rattle.std.specs.FinMap.{get, insert, remove, empty, get-empty, len-empty}
@@ -65,11 +65,8 @@ module _ (h : Broadcasts) (n i : ℕ) (k : AreKept h n) (later : n ≤ i) where
       (λ some.
       let mine = its h n i k later x.channel c there f y future (sym same) in
       let alike : mine.x ≡ x = inside (sym (in_all mine) ∙ receiver) in
-      waits h n i k later x.channel c there f y future (sym same) w (let at = ap (λ (z : Listener). z.cursor) alike in let low = below mine in omega (arith, at, reached, low)) (at_least c.senders (eqb-false c.senders 0 some))))
+      waits h n i k later x.channel c there f y future (sym same) w (let at = ap (λ (z : Listener). z.cursor) alike in let low = below mine in omega (arith, at, reached, low)) (let more = eqb-false c.senders 0 some in omega (arith, more))))
     where
-      at_least : (m : ℕ) → (m ≡ 0 → ⊥) → 0 < m
-      at_least m more = omega (arith, more)
-
       low : AreHeard c (own of_listener x.channel h.receivers) (own of_hearing x.channel h.futures) → x.cursor ≤ c.tail
       low it = it.cursors y.receiver x (own-at of_listener x.channel h.receivers y.receiver x receiver refl)
 
@@ -182,17 +179,12 @@ module _ (h : Broadcasts) (i : ℕ) (a : BroadcastAction) (none : (f : ℕ) → 
   })
 
 less_local : (c : Broadcast) (i : ℕ) → Local c.waiting (less_sender c).waiting (woken_by_end c) i 0
-less_local c i = at (c.senders == 1)
-  where
-    at : (b : Bool) → Local c.waiting (if b then record c { senders = 0; waiting = [] } else record c { senders = c.senders - 1 }).waiting (if b then wakers c.waiting else []) i 0
-    at true = local_drained c.waiting i
-    at false = local_same c.waiting i
+less_local c i = elim (c.senders == 1) as (λ b. Local c.waiting (if b then record c { senders = 0; waiting = [] } else record c { senders = c.senders - 1 }).waiting (if b then wakers c.waiting else []) i 0) [ true ↦ local_drained c.waiting i | false ↦ local_same c.waiting i ]
 
 -- a receiver receives, and nobody waits more or less
 hears_goes : (h : Broadcasts) (i r : ℕ) (x : Listener) (c : Broadcast) (s : Stands) → Goes waiting_at of_hearing h.channels h.futures (IsBefore h i (Hear r)) (broadcast_polled (Hear r)) (broadcast_ends (Hear r)) i 0 (broadcasts.hear h r x c s).hall.channels (broadcasts.hear h r x c s).hall.futures (broadcasts.hear h r x c s).wakes
 hears_goes h i r x c (Behind m) = quiet_goes h i (Hear r) (λ f is. absurd (cc)) 0 (broadcasts.hear h r x c (Behind m)) refl refl refl
-hears_goes h i r x c (Holds v) = quiet_goes h i (Hear r) (λ f is. absurd (cc)) 0 (broadcasts.hear h r x c (Holds v)) refl refl refl
-hears_goes h i r x c AtTail = quiet_goes h i (Hear r) (λ f is. absurd (cc)) 0 (broadcasts.hear h r x c AtTail) refl refl refl
+hears_goes h i r x c s = quiet_goes h i (Hear r) (λ f is. absurd (cc)) 0 (broadcasts.hear h r x c s) refl refl refl
 
 -- a future is polled: it is gone, or waits
 module _ (h : Broadcasts) (i f w r : ℕ) (x : Listener) (o : ℕ) (c : Broadcast) (there : get h.channels o ≡ Some c) where
@@ -258,17 +250,7 @@ broadcast_counts h i a = goes_counted waiting_at of_hearing h.channels h.futures
 -- an action that polls f is a poll of f
 same_hear : (a : BroadcastAction) (f w : ℕ) (P : BroadcastAction → Type 0) → ((v : ℕ) → v ≡ w → P (PollHear f v)) → broadcast_polled a f ≡ Some w → P a
 same_hear (PollHear g v) f w P here is = let test = cond_some (g == f) v w is in subst (λ j. P (PollHear j v)) (sym (eqb-true g f test.0)) (here v test.1)
-same_hear (Open m) f w P here is = absurd (cc)
-same_hear (AddSender s) f w P here is = absurd (cc)
-same_hear (SendAll s v) f w P here is = absurd (cc)
-same_hear (EndSender s) f w P here is = absurd (cc)
-same_hear (Subscribe s) f w P here is = absurd (cc)
-same_hear (Resubscribe r) f w P here is = absurd (cc)
-same_hear (CopyReceiver r) f w P here is = absurd (cc)
-same_hear (Hear r) f w P here is = absurd (cc)
-same_hear (EndReceiver r) f w P here is = absurd (cc)
-same_hear (BeginHear r) f w P here is = absurd (cc)
-same_hear (EndHear g) f w P here is = absurd (cc)
+same_hear _ f w P here is = absurd (cc)
 
 pub hearing_there : (h : Broadcasts) (a : BroadcastAction) (f w : ℕ) → broadcast_cause h a ≡ None → broadcast_polled a f ≡ Some w → is_hearing h f ≡ true
 hearing_there h a f w allowed is = same_hear a f w (λ a. broadcast_cause h a ≡ None → is_hearing h f ≡ true) (λ v same none. known (is_hearing h f) none) is allowed

@@ -4,7 +4,6 @@ use Rattle.std.specs.List.{Contains}
 use Rattle.std.specs.Ordering.{nat_cmp}
 use Rattle.std.specs.FinMap.{get, insert, remove, get-empty}
 use Rattle.std.proofs.lemmas.Bool.{eqb-true, eq-eqb, ne_eqb}
-use Rattle.std.proofs.lemmas.Bool.Decides.{nat_tests}
 use Rattle.std.proofs.lemmas.List.Elements.{Contains-append_right}
 use Rattle.mea_family.specs.declared.answer.Answer.{Answer}
 use Rattle.mea_family.specs.declared.answer.Answer.TheVariants as answers
@@ -12,9 +11,10 @@ use Rattle.mea_family.specs.declared.stop.Stop.TheVariants as stops
 use Rattle.mea_family.specs.Family.{Outcome, quietly, ToldEvent, IsRun, Starts, Goes, RunOf, last_waker, last_waker_at, wakes_since, wakes_at}
 use Rattle.mea_base.specs.Queue.{lacks, waiting_after}
 use Rattle.mea_base.specs.Totals.{weight}
-use Rattle.mea_base.proofs.Maps.{by_put, get-there, get-other, get-gone, get-removed_other, removed_there, inside, nothing_at}
+use Rattle.mea_base.proofs.Maps.{by_put, get-there, get-other, get-gone, get-removed_other, removed_there, inside, none_if, nothing_at}
 use Rattle.mea_base.proofs.Tests.{by_name}
 use Rattle.mea_family.proofs.Causes.{known}
+use Rattle.mea_family.proofs.Refusals.{borrowed_none}
 use Rattle.mea_base.proofs.Totals.{total-same}
 use Rattle.mea_by_name.specs.ByName.{Names}
 use Rattle.mea_by_name.specs.NamedQueue.{waits, waker_for}
@@ -31,8 +31,8 @@ use Rattle.mea_chan_model.specs.MailboxActions.{act_in}
 use Rattle.mea_chan_model.specs.Bounded as bounded
 use Rattle.mea_chan_model.specs.Bounded.{Bounded, Room, BoundedSend, waiting_at, is_full, is_full_in, is_got, at_room, at_room_in, woken_at, woken_in, granted, woken_by_grant, all_granted, all_woken, joined, left_by, tidied_rooms, sends_of, is_send}
 use Rattle.mea_chan_model.specs.BoundedActions.{BoundedAction, MakeRoom, CopySender, TrySend, BeginSend, PollSend, EndSend, TryReceive, PollReceive, DropSender, DropReceiver, bounded_act, bounded_cause}
-use Rattle.mea_chan_model.specs.ChanHall.{ChanHall, Unbounded, Oneshots, Full, Optional}
-use Rattle.mea_chan_model.specs.Meaning.{Meaning, OfChannels, OfBounded, OfBroadcasts, OfBoxes, meaning_of, cause_by, step_by}
+use Rattle.mea_chan_model.specs.ChanHall.{ChanHall, Unbounded, Full}
+use Rattle.mea_chan_model.specs.Meaning.{Meaning, OfChannels, OfBounded, OfBoxes, meaning_of, cause_by, step_by}
 use Rattle.mea_chan_model.specs.ChanFamily.{chans_family}
 use Rattle.mea_chan_model.specs.InOrder.{queued_in}
 use Rattle.mea_chan_model.specs.Sends.{queue_in, queue_at, capacity_in, capacity_at, is_pending_at, is_granted_at, granted_of, granted_at, pending_at, polls_send, send_polled_by, sends_family}
@@ -74,18 +74,10 @@ poured_none : (q : Lacking) → q ≡ [] → waiting_after q 1 ≡ []
 poured_none q none = ap (λ p. waiting_after p 1) none
 
 joined_queue : (f w : ℕ) (r : Room) → queue_in (Some (joined f w r)) ≡ (if waits (waiting_at r) f then rewoken r.queue f w else r.queue ++ ((f, w), 1) ∷ [])
-joined_queue f w r = at (waits (waiting_at r) f)
-  where
-    at : (b : Bool) → queue_in (Some (if b then record r { queue = rewoken r.queue f w } else record r { queue = r.queue ++ ((f, w), 1) ∷ [] })) ≡ (if b then rewoken r.queue f w else r.queue ++ ((f, w), 1) ∷ [])
-    at true = refl
-    at false = refl
+joined_queue f w r = elim (waits (waiting_at r) f) as (λ b. queue_in (Some (if b then record r { queue = rewoken r.queue f w } else record r { queue = r.queue ++ ((f, w), 1) ∷ [] })) ≡ (if b then rewoken r.queue f w else r.queue ++ ((f, w), 1) ∷ [])) [ true ↦ refl | false ↦ refl ]
 
-joined_capacity : (f w : ℕ) (r : Room) → (joined f w r).capacity ≡ r.capacity
-joined_capacity f w r = at (waits (waiting_at r) f)
-  where
-    at : (b : Bool) → (if b then record r { queue = rewoken r.queue f w } else record r { queue = r.queue ++ ((f, w), 1) ∷ [] }).capacity ≡ r.capacity
-    at true = refl
-    at false = refl
+pub joined_capacity : (f w : ℕ) (r : Room) → (joined f w r).capacity ≡ r.capacity
+joined_capacity f w r = by_if (λ (d : Room). d.capacity ≡ r.capacity) (waits (waiting_at r) f) _ _ (λ waits. refl) (λ other. refl)
 
 -- ---- the rooms after a change at one channel
 at_room_other : (rs : Names Room) (o q : ℕ) (change : Room → Room) → (o ≡ q → ⊥) → get (at_room rs o change) q ≡ get rs q
@@ -131,19 +123,14 @@ left_queue q f = if waits (who q) f then leaving q f else q
 
 left_is : (p : Option Room) (f : ℕ) → queue_in (option_map (left_by f) p) ≡ left_queue (queue_in p) f
 left_is None f = refl
-left_is (Some r) f = at (waits (waiting_at r) f)
-  where
-    at : (b : Bool) → queue_in (Some (if b then record r { queue = leaving r.queue f } else r)) ≡ (if b then leaving r.queue f else r.queue)
-    at true = refl
-    at false = refl
+left_is (Some r) f = elim (waits (waiting_at r) f) as (λ b. queue_in (Some (if b then record r { queue = leaving r.queue f } else r)) ≡ (if b then leaving r.queue f else r.queue)) [ true ↦ refl | false ↦ refl ]
 
-left_capacity : (p : Option Room) (f : ℕ) → capacity_in (option_map (left_by f) p) ≡ capacity_in p
-left_capacity None f = refl
-left_capacity (Some r) f = at (waits (waiting_at r) f)
-  where
-    at : (b : Bool) → capacity_in (Some (if b then record r { queue = leaving r.queue f } else r)) ≡ r.capacity
-    at true = refl
-    at false = refl
+pub left_capacity : (f : ℕ) (r : Room) → (left_by f r).capacity ≡ r.capacity
+left_capacity f r = by_if (λ (d : Room). d.capacity ≡ r.capacity) (waits (waiting_at r) f) _ r (λ waits. refl) (λ other. refl)
+
+left_in : (p : Option Room) (f : ℕ) → capacity_in (option_map (left_by f) p) ≡ capacity_in p
+left_in None f = refl
+left_in (Some r) f = left_capacity f r
 
 left_others : (q : Lacking) (f g : ℕ) → (f ≡ g → ⊥) → waker_for (who (left_queue q f)) g ≡ waker_for (who q) g
 left_others q f g apart = by_if (λ p. waker_for (who p) g ≡ waker_for (who q) g) (waits (who q) f) (leaving q f) q (λ waiting. ap (λ p. waker_for p g) (who-leaving q f) ∙ without-other (who q) f g apart) (λ free. refl)
@@ -362,7 +349,7 @@ module _ (all : ChanHall) (e : ChanEvent) (h : Bounded) (last : ℕ → Option �
     answers_it : (w : ℕ) → is_full h o ≡ false → Good (PollSend f w) (bounded.answered h f x (act_in h.mail i (actions.Send x.sender x.value)))
     answers_it w room =
         let out = bounded.answered h f x (act_in h.mail i (actions.Send x.sender x.value)) in
-        let change = leaves out.hall out.wakes refl (send_senders h.mail i x.sender x.value) (ap queue_in (at_room_there h.rooms o (left_by f)) ∙ left_is (get h.rooms o) f) (ap capacity_in (at_room_there h.rooms o (left_by f)) ∙ left_capacity (get h.rooms o) f)
+        let change = leaves out.hall out.wakes refl (send_senders h.mail i x.sender x.value) (ap queue_in (at_room_there h.rooms o (left_by f)) ∙ left_is (get h.rooms o) f) (ap capacity_in (at_room_there h.rooms o (left_by f)) ∙ left_in (get h.rooms o) f)
         (λ q apart. at_room_other h.rooms o q (left_by f) apart) (send_lessens h.mail i x.sender x.value)
         (λ lives some. let sent = send_more h.mail i x.sender x.value o (held.alike f x there) lives in let one = weighs_one (queue_at h o) o f (get h.sends f) in omega (arith, sent.1, one)) in
         held_after h out.hall last (last_of (PollSend f w) out) since (since_of (PollSend f w) out) n i f o out.wakes held later (repolled w out change (λ y is. gone y is))
@@ -546,11 +533,7 @@ module _ (all : ChanHall) (e : ChanEvent) (h : Bounded) (last : ℕ → Option �
     where
       at : (there : Bool) (k : ℕ) → (if there then (if nat_lt 0 k then Some stops.Borrowed else None) else Some stops.Unknown) ≡ None → (there ≡ true) × (k ≡ 0)
       at false k is = absurd (cc)
-      at true k is = (refl, by_count (nat_lt 0 k) refl is)
-        where
-          by_count : (b : Bool) → nat_lt 0 k ≡ b → (if b then Some stops.Borrowed else None) ≡ None → k ≡ 0
-          by_count true some is = absurd (cc)
-          by_count false none is = grind (arith, nat_tests, none)
+      at true k is = borrowed_none true k is
 
   -- a sender that has no send is gone
   sender_gone : (s o : ℕ) → sends_of h s ≡ 0 → Rested (bounded.sender_ended h o (act_in h.mail i (actions.EndSender s)))
@@ -670,12 +653,10 @@ module _ (h : ChanHall) (e : ChanEvent) (last : ℕ → Option ℕ) (since : ℕ
   heard m = record { number = i; before = h; event = e; reply = (step_by h i m).reply; wakes = (step_by h i m).wakes }
 
   steps : (m : Meaning) → cause_by h m ≡ None → Held (step_by h i m).hall.bounded (λ f. last_waker_at sends_family (heard m) (send_polled_by m f) (last f)) (λ f. wakes_at sends_family (heard m) (send_polled_by m f) (since f)) (i + 1)
-  steps (OfChannels Unbounded a) allowed = nothing_done h e h.bounded last since n i held later fresh (act_in h.unbounded i a).wakes
-  steps (OfChannels Oneshots a) allowed = nothing_done h e h.bounded last since n i held later fresh (act_in h.oneshots i a).wakes
   steps (OfBounded b) allowed = acts h e h.bounded last since n i held later fresh b allowed
-  steps (OfBroadcasts a) allowed = nothing_done h e h.bounded last since n i held later fresh (step_by h i (OfBroadcasts a)).wakes
+  steps (OfChannels Unbounded a) allowed = nothing_done h e h.bounded last since n i held later fresh (act_in h.unbounded i a).wakes
   steps (OfBoxes Full a) allowed = nothing_done h e h.bounded last since n i held later fresh (step_by h i (OfBoxes Full a)).wakes
-  steps (OfBoxes Optional a) allowed = nothing_done h e h.bounded last since n i held later fresh (step_by h i (OfBoxes Optional a)).wakes
+  steps m allowed = nothing_done h e h.bounded last since n i held later fresh (step_by h i m).wakes
 
 starts : Held bounded.no_bounded (λ f. None) (λ f. []) 0
 starts = record {
@@ -693,11 +674,8 @@ starts = record {
 
 all_held : (r : RunOf chans_family) → IsRun chans_family r → Held r.hall.bounded (λ f. last_waker sends_family r.trace f) (λ f. wakes_since sends_family r.trace f) r.next
 all_held _ Starts = starts
-all_held _ (Goes r i e runs later cause) = steps r.hall e _ _ r.next i (all_held r runs) later (no_channel (get r.hall.bounded.mail.channels i) refl) (meaning_of e) cause
-  where
-    no_channel : (p : Option Mailbox) → get r.hall.bounded.mail.channels i ≡ p → get r.hall.bounded.mail.channels i ≡ None
-    no_channel None is = is
-    no_channel (Some c) is = absurd (let small = (lows r runs ReceiverOfBounded).lows i c is in omega (arith, small, later))
+all_held _ (Goes r i e runs later cause) = steps r.hall e _ _ r.next i (all_held r runs) later
+    (none_if (get r.hall.bounded.mail.channels i) (λ c is. absurd (let small = (lows r runs ReceiverOfBounded).lows i c is in omega (arith, small, later)))) (meaning_of e) cause
 
 pub woken : (r : RunOf chans_family) → IsRun chans_family r → (f : ℕ) (x : BoundedSend) → get r.hall.bounded.sends f ≡ Some x → is_granted_at (queue_at r.hall.bounded x.channel) x.channel f x ≡ true
     → (w : ℕ) × (last_waker sends_family r.trace f ≡ Some w) × Contains (wakes_since sends_family r.trace f) w

@@ -6,7 +6,7 @@ use Rattle.std.proofs.lemmas.Bool.{eq-eqb, ne_eqb}
 use Rattle.mea_family.specs.declared.answer.Answer.{Answer}
 use Rattle.mea_family.specs.declared.answer.Answer.TheVariants as answers
 use Rattle.mea_family.specs.Family.{Outcome, quietly, IsRun, Starts, Goes, RunOf}
-use Rattle.mea_base.proofs.Maps.{get-there, get-other}
+use Rattle.mea_base.proofs.Maps.{get-there, get-other, none_if}
 use Rattle.mea_base.proofs.Tests.{by_name}
 use Rattle.mea_by_name.specs.ByName.{Names}
 use Rattle.mea_by_name.specs.NamedQueue.{waits}
@@ -44,6 +44,11 @@ none_fallen p m v vs queue good = at (ended_in p) refl
     at : (b : Bool) → ended_in p ≡ b → m.fallen ≡ []
     at true is = absurd (let none = sym queue ∙ good.ended is in cc)
     at false is = good.lives is
+
+-- where nothing is moved nothing is moved at o
+rests_at : (o : ℕ) (p : Option ℕ) → if_at p o nothing ≡ nothing
+rests_at o None = refl
+rests_at o (Some q) = elim (q == o) as (λ b. cond b nothing nothing ≡ nothing) [ true ↦ refl | false ↦ refl ]
 
 module _ (i o : ℕ) where
   -- what an event does to the channel o: nothing to its messages; it is made; a message is accepted, or received; its
@@ -98,33 +103,14 @@ module _ (i o : ℕ) where
     still : Does h.channels nothing
     still = Rests (get h.channels o) (get h.channels o) refl refl
 
-    if_at-nothing : (p : Option ℕ) → if_at p o nothing ≡ nothing
-    if_at-nothing None = refl
-    if_at-nothing (Some q) = elim (q == o) as (λ b. cond b nothing nothing ≡ nothing) [ true ↦ refl | false ↦ refl ]
-
     still_at : (p : Option ℕ) → Does h.channels (if_at p o nothing)
-    still_at None = still
-    still_at (Some q) = elim (q == o) as (λ b. Does h.channels (cond b nothing nothing)) [ true ↦ still | false ↦ still ]
+    still_at p = rw (rests_at o p) still
 
     -- the channel q becomes another, or is gone
     one : (q : ℕ) (c : Mailbox) (d : Option Mailbox) (m : Moved) → get h.channels q ≡ Some c → (q ≡ o → Moves (Some c) d m) → Does (after h.channels q d) (cond (q == o) m nothing)
     one q c d m is moves = by_name q o
-        (λ same. at (q == o) (test same) (subst (λ j. Moves (get h.channels j) (get (after h.channels q d) j) m) same (rw (is, after-there h.channels q d) (moves same))))
-        (λ apart. at_other (q == o) (apart_test apart) (Rests (get h.channels o) (get (after h.channels q d) o) (ap queued_in (after-other h.channels q o d apart)) (ap ended_in (after-other h.channels q o d apart))))
-      where
-        test : q ≡ o → (q == o) ≡ true
-        test same = eq-eqb q o same
-
-        apart_test : (q ≡ o → ⊥) → (q == o) ≡ false
-        apart_test apart = ne_eqb q o apart
-
-        at : (b : Bool) → b ≡ true → Does (after h.channels q d) m → Does (after h.channels q d) (cond b m nothing)
-        at true is does = does
-        at false is does = absurd (cc)
-
-        at_other : (b : Bool) → b ≡ false → Does (after h.channels q d) nothing → Does (after h.channels q d) (cond b m nothing)
-        at_other true is does = absurd (cc)
-        at_other false is does = does
+        (λ same. rw (eq-eqb q o same) (subst (λ j. Moves (get h.channels j) (get (after h.channels q d) j) m) same (rw (is, after-there h.channels q d) (moves same))))
+        (λ apart. rw (ne_eqb q o apart) (Rests (get h.channels o) (get (after h.channels q d) o) (ap queued_in (after-other h.channels q o d apart)) (ap ended_in (after-other h.channels q o d apart))))
 
     -- at the channel of a sender, and of a receiver
     by_sender : (s : ℕ) (act : ℕ → Mailbox → Outcome Mailboxes) (m : Answer → Moved) → m answers.Done ≡ nothing
@@ -156,11 +142,11 @@ module _ (i o : ℕ) where
     -- what moves nothing at a sender's channel, or at a receiver's
     rests_by_sender : (s : ℕ) (act : ℕ → Mailbox → Outcome Mailboxes) → ((q : ℕ) (c : Mailbox) → get h.channels q ≡ Some c → Does (act q c).hall.channels (cond (q == o) nothing nothing))
         → Does (found (get h.senders s) h (λ q. found (get h.channels q) h (act q))).hall.channels nothing
-    rests_by_sender s act does = subst (λ m. Does (found (get h.senders s) h (λ q. found (get h.channels q) h (act q))).hall.channels m) (if_at-nothing (get h.senders s)) (by_sender s act (λ reply. nothing) refl does)
+    rests_by_sender s act does = subst (λ m. Does (found (get h.senders s) h (λ q. found (get h.channels q) h (act q))).hall.channels m) (rests_at o (get h.senders s)) (by_sender s act (λ reply. nothing) refl does)
 
     rests_by_receiver : (r : ℕ) (act : ℕ → Mailbox → Outcome Mailboxes) → ((q : ℕ) (c : Mailbox) → get h.channels q ≡ Some c → Does (act q c).hall.channels (cond (q == o) nothing nothing))
         → Does (found (get h.receivers r) h (λ x. found (get h.channels x.channel) h (act x.channel))).hall.channels nothing
-    rests_by_receiver r act does = subst (λ m. Does (found (get h.receivers r) h (λ x. found (get h.channels x.channel) h (act x.channel))).hall.channels m) (if_at-nothing (channel_at (get h.receivers r))) (by_receiver r act (λ reply. nothing) refl does)
+    rests_by_receiver r act does = subst (λ m. Does (found (get h.receivers r) h (λ x. found (get h.channels x.channel) h (act x.channel))).hall.channels m) (rests_at o (channel_at (get h.receivers r))) (by_receiver r act (λ reply. nothing) refl does)
 
     receives_at : (q : ℕ) (c : Mailbox) (vs : List ℕ) → get h.channels q ≡ Some c → c.queued ≡ vs → Does (mailboxes.receive_of h q c vs).hall.channels (cond (q == o) (receives (mailboxes.receive_of h q c vs).reply) nothing)
     receives_at q c [] is queue = by_if (λ reply. Does h.channels (cond (q == o) (receives reply) nothing)) (c.senders == 0) answers.Gone answers.Empty (λ gone. still_at (Some q)) (λ some. still_at (Some q))
@@ -193,11 +179,7 @@ module _ (i o : ℕ) where
         (λ apart. let other = get-other h.channels i o new_mailbox apart in Rests (get h.channels o) (get (insert h.channels i new_mailbox) o) (ap queued_in other) (ap ended_in other))
 
     turns : (r : ℕ) → Does (act_in h i (Turn r)).hall.channels nothing
-    turns r = at (get h.receivers r)
-      where
-        at : (p : Option Receiver) → Does (found p h (mailboxes.turn h i r)).hall.channels nothing
-        at None = still
-        at (Some x) = still
+    turns r = by_found (λ (out : Outcome Mailboxes). Does out.hall.channels nothing) (get h.receivers r) h _ still (λ x receiver. still)
 
     moves : (a : Action) → get h.channels i ≡ None → Does (act_in h i a).hall.channels (moved_by h a (act_in h i a).reply o)
     moves (Make polls) fresh = makes polls fresh
@@ -248,11 +230,8 @@ module _ (i o : ℕ) where
   }
 
   none_falls : (p q : Option Mailbox) (d : Moved) → Moves p q d → queued_in p ≡ [] → d.fallen ≡ []
-  none_falls _ _ _ (Rests p q same ended) none = refl
-  none_falls _ _ _ (Opens p q here before after ended) none = refl
-  none_falls _ _ _ (Accepts p q v more living lives) none = refl
-  none_falls _ _ _ (Takes p q v first ended) none = refl
   none_falls _ _ _ (Falls p q vs all gone ended) none = all ∙ none
+  none_falls _ _ _ _ none = refl
 
 -- ---- bounded channels
 module _ (i o : ℕ) (h : Bounded) where
@@ -276,23 +255,15 @@ module _ (i o : ℕ) (h : Bounded) where
     at_nobody None m is = refl
     at_nobody (Some q) m is = absurd (cc)
 
-    rests_at : (p : Option ℕ) → if_at p o nothing ≡ nothing
-    rests_at None = refl
-    rests_at (Some q) = elim (q == o) as (λ b. cond b nothing nothing ≡ nothing) [ true ↦ refl | false ↦ refl ]
-
     unmoved : (out : Outcome Bounded) (m : Moved) → out.hall.mail ≡ h.mail → m ≡ nothing → BoundedDoes out m
     unmoved out m same none = subst (λ m. BoundedDoes out m) (sym none) (alone out same)
 
     bounded_sends : (s v : ℕ) → BoundedDoes (bounded_act h i (TrySend s v)) (bounded_moved_by h (TrySend s v) (bounded_act h i (TrySend s v)).reply o)
-    bounded_sends s v = at (get h.mail.senders s) refl
+    bounded_sends s v = by_found P (get h.mail.senders s) h _ (unmoved (quietly h answers.Done) _ refl (rests_at o (get h.mail.senders s))) (λ q is. by_if P (is_full h q) _ _
+        (λ full. unmoved (quietly h (answers.Full v)) _ refl (rests_at o (get h.mail.senders s))) (λ room. as_mail (bounded.in_mail h (act_in h.mail i (Send s v))) (Send s v) refl refl))
       where
-        try : Option ℕ → Outcome Bounded
-        try p = found p h (λ o. if is_full h o then quietly h (answers.Full v) else bounded.in_mail h (act_in h.mail i (Send s v)))
-
-        at : (p : Option ℕ) → get h.mail.senders s ≡ p → BoundedDoes (try p) (if_at (get h.mail.senders s) o (accepts v (try p).reply))
-        at None is = unmoved (quietly h answers.Done) _ refl (rests_at (get h.mail.senders s))
-        at (Some q) is = by_if (λ out. BoundedDoes out (if_at (get h.mail.senders s) o (accepts v out.reply))) (is_full h q) _ _
-            (λ full. unmoved (quietly h (answers.Full v)) _ refl (rests_at (get h.mail.senders s))) (λ room. as_mail (bounded.in_mail h (act_in h.mail i (Send s v))) (Send s v) refl refl)
+        P : Outcome Bounded → Type 0
+        P out = BoundedDoes out (if_at (get h.mail.senders s) o (accepts v out.reply))
 
     bounded_polls : (f w : ℕ) → BoundedDoes (bounded_act h i (PollSend f w)) (bounded_moved_by h (PollSend f w) (bounded_act h i (PollSend f w)).reply o)
     bounded_polls f w = at (get h.sends f)
@@ -303,7 +274,7 @@ module _ (i o : ℕ) (h : Bounded) where
         at : (p : Option bounded.BoundedSend) → BoundedDoes (poll p) (moved_by_send h p (poll p).reply o)
         at None = alone (quietly h answers.Done) refl
         at (Some x) = by_if (λ out. BoundedDoes out (if_at (get h.mail.senders x.sender) o (accepts x.value out.reply))) (is_full h x.channel) _ _
-            (λ full. unmoved (bounded.pends h f w x) _ refl (rests_at (get h.mail.senders x.sender))) (λ room. as_mail (bounded.answered h f x (act_in h.mail i (Send x.sender x.value))) (Send x.sender x.value) refl refl)
+            (λ full. unmoved (bounded.pends h f w x) _ refl (rests_at o (get h.mail.senders x.sender))) (λ room. as_mail (bounded.answered h f x (act_in h.mail i (Send x.sender x.value))) (Send x.sender x.value) refl refl)
 
     -- at the channel of a receiver, which is there or not
     by_bounded_receiver : (r : ℕ) (act : Receiver → Outcome Bounded) (m : Answer → Moved) → ((x : Receiver) → BoundedDoes (act x) (if_at (channel_at (get h.mail.receivers r)) o (m (act x).reply)))
@@ -315,15 +286,10 @@ module _ (i o : ℕ) (h : Bounded) where
         at (Some x) is = does x
 
     bounded_receives : (q : ℕ) (a : Action) → BoundedDoes (bounded.received h q (act_in h.mail i a)) (moved_by h.mail a (bounded.received h q (act_in h.mail i a)).reply o)
-    bounded_receives q a = at (is_got (act_in h.mail i a).reply)
+    bounded_receives q a = by_if (λ out. BoundedDoes out (moved_by h.mail a out.reply o)) (is_got (act_in h.mail i a).reply) got (bounded.in_mail h (act_in h.mail i a)) (λ is. as_mail got a refl refl) (λ other. as_mail (bounded.in_mail h (act_in h.mail i a)) a refl refl)
       where
-        got : Bool → Outcome Bounded
-        got b = if b then record { hall = record h { mail = (act_in h.mail i a).hall; rooms = at_room h.rooms q (granted 1) }; reply = (act_in h.mail i a).reply; wakes = (act_in h.mail i a).wakes ++ woken_at h.rooms q (woken_by_grant 1) }
-            else bounded.in_mail h (act_in h.mail i a)
-
-        at : (b : Bool) → BoundedDoes (got b) (moved_by h.mail a (got b).reply o)
-        at true = as_mail (got true) a refl refl
-        at false = as_mail (got false) a refl refl
+        got : Outcome Bounded
+        got = record { hall = record h { mail = (act_in h.mail i a).hall; rooms = at_room h.rooms q (granted 1) }; reply = (act_in h.mail i a).reply; wakes = (act_in h.mail i a).wakes ++ woken_at h.rooms q (woken_by_grant 1) }
 
     ends_unmoved : (f : ℕ) → (bounded_act h i (EndSend f)).hall.mail ≡ h.mail
     ends_unmoved f = by_found (λ out. out.hall.mail ≡ h.mail) (get h.sends f) h _ refl (λ x is. at x (get h.rooms x.channel))
@@ -341,11 +307,8 @@ module _ (i o : ℕ) (h : Bounded) where
     bounded_moves (EndSend f) = alone (bounded_act h i (EndSend f)) (ends_unmoved f)
     bounded_moves (TryReceive r) = by_bounded_receiver r _ receives (λ x. bounded_receives x.channel (Receive r true))
     bounded_moves (PollReceive r w) = by_bounded_receiver r _ receives (λ x. bounded_receives x.channel (Poll r w))
-    bounded_moves (DropSender s) = at (get h.mail.senders s) refl
-      where
-        at : (p : Option ℕ) → get h.mail.senders s ≡ p → BoundedDoes (found p h (λ q. bounded.sender_ended h q (act_in h.mail i (EndSender s)))) nothing
-        at None is = alone (quietly h answers.Done) refl
-        at (Some q) is = as_mail (bounded.sender_ended h q (act_in h.mail i (EndSender s))) (EndSender s) refl refl
+    bounded_moves (DropSender s) = by_found (λ out. BoundedDoes out nothing) (get h.mail.senders s) h _ (alone (quietly h answers.Done) refl)
+        (λ q is. as_mail (bounded.sender_ended h q (act_in h.mail i (EndSender s))) (EndSender s) refl refl)
     bounded_moves (DropReceiver r) = by_bounded_receiver r _ (λ reply. drops (queued_in (get h.mail.channels o))) (λ x. as_mail (bounded.receiver_ended h x.channel (act_in h.mail i (EndReceiver r true false))) (EndReceiver r true false) refl refl)
 
 -- ---- the channels of all kinds
@@ -355,13 +318,11 @@ moved-there h Oneshots a reply o = refl
 
 moved-boxes : (h : ChanHall) (j : ReceiverKind) (k : BoxKind) (a : BoxAction) (reply : Answer) (o : ℕ) → moved_at h j (OfBoxes k a) reply o ≡ nothing
 moved-boxes h (ReceiverOf Unbounded) k a reply o = refl
-moved-boxes h (ReceiverOf Oneshots) k a reply o = refl
-moved-boxes h ReceiverOfBounded k a reply o = refl
+moved-boxes h _ k a reply o = refl
 
 moved-broadcasts : (h : ChanHall) (j : ReceiverKind) (a : BroadcastAction) (reply : Answer) (o : ℕ) → moved_at h j (OfBroadcasts a) reply o ≡ nothing
 moved-broadcasts h (ReceiverOf Unbounded) a reply o = refl
-moved-broadcasts h (ReceiverOf Oneshots) a reply o = refl
-moved-broadcasts h ReceiverOfBounded a reply o = refl
+moved-broadcasts h _ a reply o = refl
 
 moved-bounded : (h : ChanHall) (k : Kind) (b : BoundedAction) (reply : Answer) (o : ℕ) → moved_at h (ReceiverOf k) (OfBounded b) reply o ≡ nothing
 moved-bounded h Unbounded b reply o = refl
@@ -384,18 +345,11 @@ module _ (h : ChanHall) (i o : ℕ) where
       (Rests (get h.bounded.mail.channels o) (get h.bounded.mail.channels o) refl refl) (Rests (get h.bounded.mail.channels o) (get h.bounded.mail.channels o) refl refl) k j
     where
       no_channel : (k : Kind) → get (part h k).channels i ≡ None
-      no_channel k = at (get (part h k).channels i) refl
-        where
-          at : (p : Option Mailbox) → get (part h k).channels i ≡ p → get (part h k).channels i ≡ None
-          at None is = is
-          at (Some c) is = absurd (let small = (low (ReceiverOf k)).lows i c is in omega (arith, small, later))
+      no_channel k = none_if (get (part h k).channels i) (λ c is. absurd (let small = (low (ReceiverOf k)).lows i c is in omega (arith, small, later)))
   does n low later quiet (OfBounded b) (ReceiverOf k) = subst (λ m. Moves i o (get (part h k).channels o) (get (part (step_by h i (OfBounded b)).hall k).channels o) m) (sym (moved-bounded h k b (step_by h i (OfBounded b)).reply o))
       (Rests (get (part h k).channels o) (get (part (step_by h i (OfBounded b)).hall k).channels o) (ap (λ (m : Mailboxes). queued_in (get m.channels o)) (beside_bounded h (bounded_act h.bounded i b).hall k)) (ap (λ (m : Mailboxes). ended_in (get m.channels o)) (beside_bounded h (bounded_act h.bounded i b).hall k)))
-  does n low later quiet (OfBounded b) ReceiverOfBounded = bounded_moves i o h.bounded (quiet ReceiverOfBounded) (absent (get h.bounded.mail.channels i) refl) b
-    where
-      absent : (p : Option Mailbox) → get h.bounded.mail.channels i ≡ p → get h.bounded.mail.channels i ≡ None
-      absent None is = is
-      absent (Some c) is = absurd (let small = (low ReceiverOfBounded).lows i c is in omega (arith, small, later))
+  does n low later quiet (OfBounded b) ReceiverOfBounded = bounded_moves i o h.bounded (quiet ReceiverOfBounded)
+      (none_if (get h.bounded.mail.channels i) (λ c is. absurd (let small = (low ReceiverOfBounded).lows i c is in omega (arith, small, later)))) b
   does n low later quiet (OfBroadcasts a) j = rw (beside_broadcasts h (broadcast_act h.broadcasts i a).hall j, moved-broadcasts h j a (broadcast_act h.broadcasts i a).reply o) (Rests (get (mail h j).channels o) (get (mail h j).channels o) refl refl)
   does n low later quiet (OfBoxes k a) j = rw (beside, moved-boxes) (Rests (get (mail h j).channels o) (get (mail h j).channels o) refl refl)
 
@@ -407,8 +361,7 @@ all_good _ Starts k o = at k
   where
     at : (k : ReceiverKind) → AllGood (record { hall = empty_hall; trace = []; next = 0 }) k o
     at (ReceiverOf Unbounded) = record { good = rw (get-empty nat_cmp o) (record { order = refl; lives = λ is. absurd (cc); ended = λ is. refl }); fresh = λ low. refl }
-    at (ReceiverOf Oneshots) = record { good = rw (get-empty nat_cmp o) (record { order = refl; lives = λ is. absurd (cc); ended = λ is. refl }); fresh = λ low. refl }
-    at ReceiverOfBounded = record { good = rw (get-empty nat_cmp o) (record { order = refl; lives = λ is. absurd (cc); ended = λ is. refl }); fresh = λ low. refl }
+    at _ = record { good = rw (get-empty nat_cmp o) (record { order = refl; lives = λ is. absurd (cc); ended = λ is. refl }); fresh = λ low. refl }
 all_good _ (Goes r i e runs later cause) k o =
     let before = all_good r runs in
     let step = does r.hall i o r.next (lows r runs) later (λ k q c is. quiet_by _ _ c is (before k q).good) (meaning_of e) k in
@@ -419,11 +372,7 @@ all_good _ (Goes r i e runs later cause) k o =
     }
   where
     no_channel : i + 1 ≤ o → get (mail r.hall k).channels o ≡ None
-    no_channel low = at (get (mail r.hall k).channels o) refl
-      where
-        at : (p : Option Mailbox) → get (mail r.hall k).channels o ≡ p → get (mail r.hall k).channels o ≡ None
-        at None is = is
-        at (Some c) is = absurd (let small = (lows r runs k).lows o c is in omega (arith, small, later, low))
+    no_channel low = none_if (get (mail r.hall k).channels o) (λ c is. absurd (let small = (lows r runs k).lows o c is in omega (arith, small, later, low)))
 
 pub in_order : (r : RunOf chans_family) → IsRun chans_family r → (k : ReceiverKind) (o : ℕ) → (moved k o r.trace).accepted ≡ (moved k o r.trace).received ++ ((moved k o r.trace).fallen ++ queued_in (get (mail r.hall k).channels o))
 in_order r runs k o = (all_good r runs k o).good.order

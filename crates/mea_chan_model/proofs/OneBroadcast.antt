@@ -80,15 +80,9 @@ module _ (c : Broadcast) (xs : Names Listener) (ys : Names Hearing) (a : AreHear
         counted = a.counted;
         receivers = a.receivers;
         cursors = a.cursors;
-        hears = λ f y had. let it = a.hears f y had in record { x = it.x; there = it.there; user = it.user; awake = λ w waiting. let both = it.awake w waiting in (both.0, at_least c.senders both.1 (eqb-false c.senders 1 is)) };
-        silent = λ none. a.silent (only c.senders none (eqb-false c.senders 1 is));
+        hears = λ f y had. let it = a.hears f y had in record { x = it.x; there = it.there; user = it.user; awake = λ w waiting. let both = it.awake w waiting in let more = eqb-false c.senders 1 is in (both.0, omega (arith, both.1, more)) };
+        silent = λ none. a.silent (let more = eqb-false c.senders 1 is in omega (arith, none, more));
       }
-        where
-          at_least : (n : ℕ) → 0 < n → (n ≡ 1 → ⊥) → 0 < n - 1
-          at_least n some more = omega (arith, some, more)
-
-          only : (n : ℕ) → n - 1 ≡ 0 → (n ≡ 1 → ⊥) → n ≡ 0
-          only n none more = omega (arith, none, more)
 
   -- a further receiver
   pub joined : (i : ℕ) (x : Listener) → get xs i ≡ None → x.cursor ≤ c.tail → AreHeard (record c { receivers = c.receivers + 1 }) (insert xs i x) ys

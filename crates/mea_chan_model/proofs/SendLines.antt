@@ -154,18 +154,10 @@ pub not_granted_elsewhere : (q : Lacking) (o k : ℕ) (x : BoundedSend) → (x.c
 not_granted_elsewhere q o k x apart = ap (λ b. if (if b then x.polled else false) then not (waits (who q) k) else false) (ne_eqb x.channel o apart)
 
 pub not_granted_new : (q : Lacking) (o k : ℕ) (x : BoundedSend) → x.polled ≡ false → is_granted_at q o k x ≡ false
-not_granted_new q o k x new = ap (λ b. if (if x.channel == o then b else false) then not (waits (who q) k) else false) new ∙ at (x.channel == o)
-  where
-    at : (b : Bool) → (if (if b then false else false) then not (waits (who q) k) else false) ≡ false
-    at true = refl
-    at false = refl
+not_granted_new q o k x new = ap (λ b. if (if x.channel == o then b else false) then not (waits (who q) k) else false) new ∙ (elim (x.channel == o) as (λ b. (if (if b then false else false) then not (waits (who q) k) else false) ≡ false) [ true ↦ refl | false ↦ refl ])
 
 pub not_granted_waiting : (q : Lacking) (o k : ℕ) (x : BoundedSend) → waits (who q) k ≡ true → is_granted_at q o k x ≡ false
-not_granted_waiting q o k x waiting = ap (λ b. if is_pending_at o x then not b else false) waiting ∙ at (is_pending_at o x)
-  where
-    at : (b : Bool) → (if b then not true else false) ≡ false
-    at true = refl
-    at false = refl
+not_granted_waiting q o k x waiting = ap (λ b. if is_pending_at o x then not b else false) waiting ∙ (elim (is_pending_at o x) as (λ b. (if b then not true else false) ≡ false) [ true ↦ refl | false ↦ refl ])
 
 pub granted_there : (q : Lacking) (o k : ℕ) (x : BoundedSend) → x.channel ≡ o → x.polled ≡ true → waits (who q) k ≡ false → is_granted_at q o k x ≡ true
 granted_there q o k x mine polled free = rw (eq-eqb x.channel o mine, polled, free) refl

@@ -28,14 +28,14 @@ use Rattle.mea_by_name.proofs.Cases.{by_found, by_if, if_false}
 use Rattle.mea_events.specs.declared.chan_event.ChanEvent.{ChanEvent}
 use Rattle.mea_chan_model.specs.Mailboxes as mailboxes
 use Rattle.mea_chan_model.specs.Mailboxes.{Mailbox, Mailboxes, Receiver, new_mailbox, is_channel, is_receiver, polls_as, kept, waker_in, placed_of}
-use Rattle.mea_chan_model.specs.MailboxActions.{Action, Make, Copy, Send, SendLast, EndSender, Receive, Poll, EndReceiver, Turn, TellClosed, TellOver, TellMessage, act_in, registers_in, polled_in, ends_in, cause_in}
-use Rattle.mea_chan_model.specs.Boxes.{Boxes, BoxAction, MakeBox, Swap, Store, Tell, TakeOut, DropBox, box_act}
+use Rattle.mea_chan_model.specs.MailboxActions.{Action, Make, Copy, Send, EndSender, Receive, Poll, EndReceiver, act_in, registers_in, polled_in, ends_in, cause_in}
+use Rattle.mea_chan_model.specs.Boxes.{Boxes, BoxAction, MakeBox, box_act}
 use Rattle.mea_chan_model.specs.ChanHall.{ChanHall, Kind, Unbounded, Oneshots, ReceiverKind, ReceiverOf, ReceiverOfBounded, BoxKind, Full, Optional, empty_hall, part, with_part, mail, with_boxes, boxes_of, registered}
 use Rattle.mea_chan_model.specs.Meaning.{Meaning, OfChannels, OfBounded, OfBroadcasts, OfBoxes, meaning_of, cause_by, step_by, step, registers, registers_by}
 use Rattle.mea_chan_model.specs.ChanFamily.{Future, Receives, Hears, chans_family, polled_at, polled_at_bounded, receiver_polled_by, hearing_polled_by, polled, ends_at, ends_at_bounded, receiver_ended_by, hearing_ended_by, ends, name, lives, placed}
 use Rattle.mea_chan_model.specs.Broadcasts as broadcasts
 use Rattle.mea_chan_model.specs.Broadcasts.{Broadcasts}
-use Rattle.mea_chan_model.specs.BroadcastActions.{BroadcastAction, broadcast_act}
+use Rattle.mea_chan_model.specs.BroadcastActions.{broadcast_act}
 use Rattle.mea_chan_model.specs.BroadcastValid.{AreKept}
 use Rattle.mea_chan_model.proofs.BroadcastActing.{rests}
 use Rattle.mea_chan_model.proofs.BroadcastWakes.{none_kept, kept_after, broadcast_counts, hearing_there, hearing_stays, hearing_kept, hearing_made, hearing_gone, hearing_below, hearing_placed, hearing_waits}
@@ -219,17 +219,7 @@ places_poll h i f w = by_found P (get h.receivers f) h _ (λ is. absurd (cc)) (�
 -- an action that polls f is a poll of f
 same_poll : (a : Action) (f w : ℕ) (P : Action → Type 0) → ((v : ℕ) → v ≡ w → P (Poll f v)) → polled_in a f ≡ Some w → P a
 same_poll (Poll g v) f w P here is = let test = cond_some (g == f) v w is in subst (λ j. P (Poll j v)) (sym (eqb-true g f test.0)) (here v test.1)
-same_poll (Make polls) f w P here is = absurd (cc)
-same_poll (Copy s) f w P here is = absurd (cc)
-same_poll (Send s v) f w P here is = absurd (cc)
-same_poll (SendLast s v) f w P here is = absurd (cc)
-same_poll (EndSender s) f w P here is = absurd (cc)
-same_poll (Receive r polls) f w P here is = absurd (cc)
-same_poll (EndReceiver r polls falls) f w P here is = absurd (cc)
-same_poll (Turn r) f w P here is = absurd (cc)
-same_poll (TellClosed s) f w P here is = absurd (cc)
-same_poll (TellOver r) f w P here is = absurd (cc)
-same_poll (TellMessage r) f w P here is = absurd (cc)
+same_poll _ f w P here is = absurd (cc)
 
 receiver_there : (p : Option Receiver) (polls : Bool) → polls_as p polls ≡ true → IsSome p
 receiver_there None polls is = absurd (cc)
@@ -251,11 +241,8 @@ there h Oneshots p = refl
 
 pub beside : (h : ChanHall) (b : BoxKind) (i : ℕ) (a : BoxAction) (j : ReceiverKind) → mail (with_boxes h b (box_act (boxes_of h b) i a).hall) j ≡ mail h j
 beside h Full i a (ReceiverOf Unbounded) = refl
-beside h Full i a (ReceiverOf Oneshots) = refl
-beside h Full i a ReceiverOfBounded = refl
 beside h Optional i a (ReceiverOf Unbounded) = refl
-beside h Optional i a (ReceiverOf Oneshots) = refl
-beside h Optional i a ReceiverOfBounded = refl
+beside h _ i a _ = refl
 
 -- what is done to bounded channels leaves those of the kinds as they are
 pub beside_bounded : (h : ChanHall) (b : Bounded) (k : Kind) → part (record h { bounded = b }) k ≡ part h k
@@ -265,8 +252,7 @@ beside_bounded h b Oneshots = refl
 -- and so does what is done to broadcast channels
 pub beside_broadcasts : (h : ChanHall) (b : Broadcasts) (j : ReceiverKind) → mail (record h { broadcasts = b }) j ≡ mail h j
 beside_broadcasts h b (ReceiverOf Unbounded) = refl
-beside_broadcasts h b (ReceiverOf Oneshots) = refl
-beside_broadcasts h b ReceiverOfBounded = refl
+beside_broadcasts h b _ = refl
 
 polled-there : (k : Kind) (a : Action) (f : ℕ) → polled_at k (ReceiverOf k) a f ≡ polled_in a f
 polled-there Unbounded a f = refl
@@ -282,15 +268,7 @@ Lows h n = (k : ReceiverKind) → Low (mail h k) n
 -- a poll of a receiver
 at_poll : (f w : ℕ) (P : BoundedAction → Type 0) → ((v : ℕ) → v ≡ w → P (PollReceive f v)) → (a : BoundedAction) → bounded_polled a f ≡ Some w → P a
 at_poll f w P here (PollReceive q v) is = let test = cond_some (q == f) v w is in subst (λ j. P (PollReceive j v)) (sym (eqb-true q f test.0)) (here v test.1)
-at_poll f w P here (MakeRoom k) is = absurd (cc)
-at_poll f w P here (CopySender s) is = absurd (cc)
-at_poll f w P here (TrySend s v) is = absurd (cc)
-at_poll f w P here (BeginSend s v) is = absurd (cc)
-at_poll f w P here (PollSend g v) is = absurd (cc)
-at_poll f w P here (EndSend g) is = absurd (cc)
-at_poll f w P here (TryReceive r) is = absurd (cc)
-at_poll f w P here (DropSender s) is = absurd (cc)
-at_poll f w P here (DropReceiver r) is = absurd (cc)
+at_poll f w P here _ is = absurd (cc)
 
 wait_bounded : (h : ChanHall) (n i : ℕ) → Lows h n → (b : BoundedAction) (f w v : ℕ) (j : ReceiverKind) → mailboxes.placed (mail h j) f ≡ Some w → polled_at_bounded j b f ≡ Some v → (bounded_act h.bounded i b).reply ≡ answers.Pending
 wait_bounded h n i lows b f w v (ReceiverOf k) placed is = absurd (cc)
@@ -395,15 +373,11 @@ module _ (h : ChanHall) (i : ℕ) where
         (λ v same pending. ap (λ p. mailboxes.placed p f) (poll_hall h.bounded i f v) ∙ places_poll h.bounded.mail i f v (sym (poll_reply h.bounded i f v) ∙ pending) ∙ ap (λ u. Some u) same) b is
 
   -- ---- of every meaning
-  by_meaning : (P : Meaning → Type 0) → ((k : Kind) (a : Action) → P (OfChannels k a)) → ((a : BoundedAction) → P (OfBounded a)) → ((a : BroadcastAction) → P (OfBroadcasts a)) → ((k : BoxKind) (a : BoxAction) → P (OfBoxes k a)) → (m : Meaning) → P m
-  by_meaning P channels of_bounded of_broadcasts boxes (OfChannels k a) = channels k a
-  by_meaning P channels of_bounded of_broadcasts boxes (OfBounded a) = of_bounded a
-  by_meaning P channels of_bounded of_broadcasts boxes (OfBroadcasts a) = of_broadcasts a
-  by_meaning P channels of_bounded of_broadcasts boxes (OfBoxes k a) = boxes k a
-
   lows_after : (n : ℕ) → Lows h n → n ≤ i → (m : Meaning) (j : ReceiverKind) → Low (mail (step_by h i m).hall j) (i + 1)
-  lows_after n lows later = by_meaning (λ m. (j : ReceiverKind) → Low (mail (step_by h i m).hall j) (i + 1))
-      (λ k a j. lows_acted a n lows later k j) (λ a j. low_bounded n lows later a j) (λ a j. rw beside_broadcasts (low_later (mail h j) n i (lows j) later)) (λ k a j. rw beside (low_later (mail h j) n i (lows j) later))
+  lows_after n lows later (OfChannels k a) j = lows_acted a n lows later k j
+  lows_after n lows later (OfBounded b) j = low_bounded n lows later b j
+  lows_after n lows later (OfBroadcasts a) j = rw beside_broadcasts (low_later (mail h j) n i (lows j) later)
+  lows_after n lows later (OfBoxes k a) j = rw beside (low_later (mail h j) n i (lows j) later)
 
 pub lows : (r : RunOf chans_family) → IsRun chans_family r → Lows r.hall r.next
 lows _ Starts = λ k. at k
@@ -418,16 +392,14 @@ lows _ Starts = λ k. at k
 
     at : (k : ReceiverKind) → Low (mail empty_hall k) 0
     at (ReceiverOf Unbounded) = none
-    at (ReceiverOf Oneshots) = none
-    at ReceiverOfBounded = none
+    at _ = none
 lows _ (GoesOn r i e runs later cause) = λ j. lows_after r.hall i r.next (lows r runs) later (meaning_of e) j
 
 module _ (r : RunOf chans_family) (i : ℕ) (runs : IsRun chans_family r) (later : r.next ≤ i) (j : ReceiverKind) (g : ℕ) where
   places : (m : Meaning) (w : ℕ) → receiver_polled_by m j g ≡ Some w → (step_by r.hall i m).reply ≡ answers.Pending → mailboxes.placed (mail (step_by r.hall i m).hall j) g ≡ Some w
   places (OfChannels k a) w is pending = polled_place r.hall i a g w k j is pending
   places (OfBounded b) w is pending = place_bounded r.hall i r.next (lows r runs) later b g w j is pending
-  places (OfBroadcasts a) w is pending = absurd (cc)
-  places (OfBoxes k a) w is pending = absurd (cc)
+  places _ w is pending = absurd (cc)
 
   wakes : (m : Meaning) (w : ℕ) → mailboxes.placed (mail r.hall j) g ≡ Some w → receiver_polled_by m j g ≡ None → receiver_ended_by m j g ≡ false
       → (mailboxes.placed (mail (step_by r.hall i m).hall j) g ≡ Some w) ⊎ Contains (step_by r.hall i m).wakes w
@@ -445,8 +417,7 @@ module _ (r : RunOf chans_family) (i : ℕ) (runs : IsRun chans_family r) (later
   is_gone : (m : Meaning) → receiver_ended_by m j g ≡ true → mailboxes.is_there (mail (step_by r.hall i m).hall j) g ≡ false
   is_gone (OfChannels k a) is = ended_gone r.hall i a r.next (lows r runs) later g k j is
   is_gone (OfBounded b) is = gone_bounded r.hall i r.next (lows r runs) later b g j is
-  is_gone (OfBroadcasts a) is = absurd (cc)
-  is_gone (OfBoxes k a) is = absurd (cc)
+  is_gone _ is = absurd (cc)
 
   is_made : (m : Meaning) → mailboxes.is_there (mail (step_by r.hall i m).hall j) g ≡ true → (mailboxes.is_there (mail r.hall j) g ≡ true) ⊎ (g ≡ i)
   is_made (OfChannels k a) is = all_made r.hall i a r.next (lows r runs) later g k j is
@@ -457,14 +428,12 @@ module _ (r : RunOf chans_family) (i : ℕ) (runs : IsRun chans_family r) (later
 waits_on_poll : (r : RunOf chans_family) (i : ℕ) → IsRun chans_family r → (j : ReceiverKind) (g : ℕ) (m : Meaning) (w v : ℕ) → mailboxes.placed (mail r.hall j) g ≡ Some w → receiver_polled_by m j g ≡ Some v → (step_by r.hall i m).reply ≡ answers.Pending
 waits_on_poll r i runs j g (OfChannels k a) w v is polls = polled_waits r.hall i a r.next (lows r runs) g w v k j is polls
 waits_on_poll r i runs j g (OfBounded b) w v is polls = wait_bounded r.hall r.next i (lows r runs) b g w v j is polls
-waits_on_poll r i runs j g (OfBroadcasts a) w v is polls = absurd (cc)
-waits_on_poll r i runs j g (OfBoxes k a) w v is polls = absurd (cc)
+waits_on_poll r i runs j g _ w v is polls = absurd (cc)
 
 polls : (h : ChanHall) (m : Meaning) (j : ReceiverKind) (g : ℕ) (w : ℕ) → cause_by h m ≡ None → receiver_polled_by m j g ≡ Some w → mailboxes.is_there (mail h j) g ≡ true
 polls h (OfChannels k a) j g w none is = polled_lives h 0 a g w k j none is
 polls h (OfBounded b) j g w none is = live_bounded h b g w j none is
-polls h (OfBroadcasts a) j g w none is = absurd (cc)
-polls h (OfBoxes k a) j g w none is = absurd (cc)
+polls h _ j g w none is = absurd (cc)
 
 -- ---- the futures of broadcast channels
 pub broadcasts_kept : (r : RunOf chans_family) → IsRun chans_family r → AreKept r.hall.broadcasts r.next
@@ -472,62 +441,46 @@ broadcasts_kept _ Starts = none_kept
 broadcasts_kept _ (GoesOn r i e runs later cause) = at (meaning_of e) cause (broadcasts_kept r runs)
   where
     at : (m : Meaning) → cause_by r.hall m ≡ None → AreKept r.hall.broadcasts r.next → AreKept (step_by r.hall i m).hall.broadcasts (i + 1)
-    at (OfChannels Unbounded a) allowed before = rests r.hall.broadcasts r.next i before later
-    at (OfChannels Oneshots a) allowed before = rests r.hall.broadcasts r.next i before later
-    at (OfBounded a) allowed before = rests r.hall.broadcasts r.next i before later
     at (OfBroadcasts a) allowed before = kept_after r.hall.broadcasts r.next i before later a allowed
+    at (OfChannels Unbounded a) allowed before = rests r.hall.broadcasts r.next i before later
     at (OfBoxes Full a) allowed before = rests r.hall.broadcasts r.next i before later
-    at (OfBoxes Optional a) allowed before = rests r.hall.broadcasts r.next i before later
+    at _ allowed before = rests r.hall.broadcasts r.next i before later
 
 hearing_waits_on : (h : ChanHall) (n i : ℕ) → AreKept h.broadcasts n → (f : ℕ) (m : Meaning) (w v : ℕ) → broadcasts.placed h.broadcasts f ≡ Some w → hearing_polled_by m f ≡ Some v → (step_by h i m).reply ≡ answers.Pending
-hearing_waits_on h n i k f (OfChannels j a) w v is polls = absurd (cc)
-hearing_waits_on h n i k f (OfBounded a) w v is polls = absurd (cc)
 hearing_waits_on h n i k f (OfBroadcasts a) w v is polls = hearing_waits h.broadcasts n i k a f w v is polls
-hearing_waits_on h n i k f (OfBoxes j a) w v is polls = absurd (cc)
+hearing_waits_on h n i k f _ w v is polls = absurd (cc)
 
 module _ (h : ChanHall) (n i : ℕ) (k : AreKept h.broadcasts n) (later : n ≤ i) (f : ℕ) where
   hearing_places : (m : Meaning) (w : ℕ) → hearing_polled_by m f ≡ Some w → (step_by h i m).reply ≡ answers.Pending → broadcasts.placed (step_by h i m).hall.broadcasts f ≡ Some w
-  hearing_places (OfChannels k a) w is pending = absurd (cc)
-  hearing_places (OfBounded a) w is pending = absurd (cc)
   hearing_places (OfBroadcasts a) w is pending = hearing_placed h.broadcasts n i k later a f w is pending
-  hearing_places (OfBoxes k a) w is pending = absurd (cc)
+  hearing_places _ w is pending = absurd (cc)
 
   hearing_wakes : (m : Meaning) → cause_by h m ≡ None → (w : ℕ) → broadcasts.placed h.broadcasts f ≡ Some w → hearing_polled_by m f ≡ None → hearing_ended_by m f ≡ false
       → (broadcasts.placed (step_by h i m).hall.broadcasts f ≡ Some w) ⊎ Contains (step_by h i m).wakes w
-  hearing_wakes (OfChannels Unbounded a) allowed w is quiet lasts = inl is
-  hearing_wakes (OfChannels Oneshots a) allowed w is quiet lasts = inl is
-  hearing_wakes (OfBounded a) allowed w is quiet lasts = inl is
   hearing_wakes (OfBroadcasts a) allowed w is quiet lasts = hearing_kept h.broadcasts n i k later a allowed f w is quiet lasts
+  hearing_wakes (OfChannels Unbounded a) allowed w is quiet lasts = inl is
   hearing_wakes (OfBoxes Full a) allowed w is quiet lasts = inl is
-  hearing_wakes (OfBoxes Optional a) allowed w is quiet lasts = inl is
+  hearing_wakes _ allowed w is quiet lasts = inl is
 
   hearing_lives : (m : Meaning) → cause_by h m ≡ None → broadcasts.is_hearing h.broadcasts f ≡ true → hearing_polled_by m f ≡ None → hearing_ended_by m f ≡ false → broadcasts.is_hearing (step_by h i m).hall.broadcasts f ≡ true
-  hearing_lives (OfChannels Unbounded a) allowed is quiet lasts = is
-  hearing_lives (OfChannels Oneshots a) allowed is quiet lasts = is
-  hearing_lives (OfBounded a) allowed is quiet lasts = is
   hearing_lives (OfBroadcasts a) allowed is quiet lasts = hearing_stays h.broadcasts n i k later a allowed f is quiet lasts
+  hearing_lives (OfChannels Unbounded a) allowed is quiet lasts = is
   hearing_lives (OfBoxes Full a) allowed is quiet lasts = is
-  hearing_lives (OfBoxes Optional a) allowed is quiet lasts = is
+  hearing_lives _ allowed is quiet lasts = is
 
   hearing_ends : (m : Meaning) → cause_by h m ≡ None → hearing_ended_by m f ≡ true → broadcasts.is_hearing (step_by h i m).hall.broadcasts f ≡ false
-  hearing_ends (OfChannels k a) allowed is = absurd (cc)
-  hearing_ends (OfBounded a) allowed is = absurd (cc)
   hearing_ends (OfBroadcasts a) allowed is = hearing_gone h.broadcasts n i k later a allowed f is
-  hearing_ends (OfBoxes k a) allowed is = absurd (cc)
+  hearing_ends _ allowed is = absurd (cc)
 
   hearing_is_made : (m : Meaning) → cause_by h m ≡ None → broadcasts.is_hearing (step_by h i m).hall.broadcasts f ≡ true → (broadcasts.is_hearing h.broadcasts f ≡ true) ⊎ (f ≡ i)
-  hearing_is_made (OfChannels Unbounded a) allowed is = inl is
-  hearing_is_made (OfChannels Oneshots a) allowed is = inl is
-  hearing_is_made (OfBounded a) allowed is = inl is
   hearing_is_made (OfBroadcasts a) allowed is = hearing_made h.broadcasts n i k later a allowed f is
+  hearing_is_made (OfChannels Unbounded a) allowed is = inl is
   hearing_is_made (OfBoxes Full a) allowed is = inl is
-  hearing_is_made (OfBoxes Optional a) allowed is = inl is
+  hearing_is_made _ allowed is = inl is
 
 hearing_polls : (h : ChanHall) (m : Meaning) (f w : ℕ) → cause_by h m ≡ None → hearing_polled_by m f ≡ Some w → broadcasts.is_hearing h.broadcasts f ≡ true
-hearing_polls h (OfChannels k a) f w none is = absurd (cc)
-hearing_polls h (OfBounded a) f w none is = absurd (cc)
 hearing_polls h (OfBroadcasts a) f w none is = hearing_there h.broadcasts a f w none is
-hearing_polls h (OfBoxes k a) f w none is = absurd (cc)
+hearing_polls h _ f w none is = absurd (cc)
 
 -- ---- both
 of_each : (P : Future → Type 0) → ((j : ReceiverKind) (g : ℕ) → P (Receives j g)) → ((f : ℕ) → P (Hears f)) → (f : Future) → P f
@@ -578,11 +531,7 @@ counts h i a = at _ _ (goes h i a).channels
 -- nothing that is done to boxes wakes anybody
 pub box_quiet : (h : Boxes) (i : ℕ) (a : BoxAction) → (box_act h i a).wakes ≡ []
 box_quiet h i (MakeBox c) = refl
-box_quiet h i (Swap b c) = by_found (λ o. o.wakes ≡ []) (get h b) h _ refl (λ x is. refl)
-box_quiet h i (Store b c) = by_found (λ o. o.wakes ≡ []) (get h b) h _ refl (λ x is. refl)
-box_quiet h i (Tell b) = by_found (λ o. o.wakes ≡ []) (get h b) h _ refl (λ x is. refl)
-box_quiet h i (TakeOut b) = by_found (λ o. o.wakes ≡ []) (get h b) h _ refl (λ x is. refl)
-box_quiet h i (DropBox b) = by_found (λ o. o.wakes ≡ []) (get h b) h _ refl (λ x is. refl)
+box_quiet h i _ = by_found (λ o. o.wakes ≡ []) _ h _ refl (λ x is. refl)
 
 -- a bounded action, by what it does to the mailboxes and to the rooms
 both_counted : (h : Bounded) (i : ℕ) (a : Action) (rs : Names Room) (ws : List ℕ) (extra : ℕ) → Rooms h.rooms rs ws extra

@@ -12,22 +12,8 @@ use Rattle.mea_chan_model.specs.MailboxActions as actions
 use Rattle.mea_chan_model.specs.MailboxActions.{cause_in, act_in, polled_in, ends_in}
 use Rattle.mea_chan_model.specs.Bounded as bounded
 use Rattle.mea_chan_model.specs.Bounded.{Bounded, is_send, sends_of, is_full}
-
-pub data BoundedAction : Type 0 where
-  -- a channel with room for so many messages, with a sender and a receiver
-  MakeRoom : ℕ → BoundedAction
-  CopySender : ℕ → BoundedAction
-  -- a sender sends at once, or not at all; it begins a send that may wait; that is polled with a waker, or ends
-  TrySend : ℕ → ℕ → BoundedAction
-  BeginSend : ℕ → ℕ → BoundedAction
-  PollSend : ℕ → ℕ → BoundedAction
-  EndSend : ℕ → BoundedAction
-  -- a receiver takes the first message; it is polled with a waker
-  TryReceive : ℕ → BoundedAction
-  PollReceive : ℕ → ℕ → BoundedAction
-  -- a sender is gone, or a receiver
-  DropSender : ℕ → BoundedAction
-  DropReceiver : ℕ → BoundedAction
+pub use Rattle.mea_chan_model.specs.declared.bounded_action.BoundedAction.{BoundedAction}
+pub use Rattle.mea_chan_model.specs.declared.bounded_action.BoundedAction.TheVariants.{MakeRoom, CopySender, TrySend, BeginSend, PollSend, EndSend, TryReceive, PollReceive, DropSender, DropReceiver}
 
 abbrev pub bounded_cause : Bounded → BoundedAction → Option Stop
 bounded_cause h (MakeRoom n) = if n == 0 then Some stops.Zero else None

@@ -8,6 +8,8 @@ use Rattle.mea_family.specs.Causes.{unknown_unless}
 use Rattle.mea_family.specs.Family.{Outcome, quietly}
 use Rattle.mea_by_name.specs.ByName.{Names, names_code}
 use Rattle.mea_family.specs.Play.{found, content}
+pub use Rattle.mea_chan_model.specs.declared.box_action.BoxAction.{BoxAction}
+pub use Rattle.mea_chan_model.specs.declared.box_action.BoxAction.TheVariants.{MakeBox, Swap, Store, Tell, TakeOut, DropBox}
 
 -- what each box contains, if it does
 abbrev pub Boxes : Type 0
@@ -15,17 +17,6 @@ Boxes = Names (Option ℕ)
 
 abbrev pub is_box : Boxes → ℕ → Bool
 is_box h b = is_some (get h b)
-
-pub data BoxAction : Type 0 where
-  -- a box with this content
-  MakeBox : Option ℕ → BoxAction
-  -- another content is put in, and the one before is told, or not
-  Swap : ℕ → Option ℕ → BoxAction
-  Store : ℕ → Option ℕ → BoxAction
-  -- the content is told, or told and taken with the box, or the box is dropped
-  Tell : ℕ → BoxAction
-  TakeOut : ℕ → BoxAction
-  DropBox : ℕ → BoxAction
 
 abbrev pub box_cause : Boxes → BoxAction → Option Stop
 box_cause h (MakeBox c) = None

@@ -8,25 +8,8 @@ use Rattle.mea_family.specs.Family.{Outcome}
 use Rattle.mea_family.specs.Play.{found}
 use Rattle.mea_chan_model.specs.Broadcasts as broadcasts
 use Rattle.mea_chan_model.specs.Broadcasts.{Broadcast, Broadcasts, Listener, is_sender, is_hearing, ring_size, senders_in, tail_in, channel_of, stands}
-
-pub data BroadcastAction : Type 0 where
-  -- a channel whose ring keeps the least power of two that is at least so many, with a sender and a receiver
-  Open : ℕ → BroadcastAction
-  -- a further sender, beside this one; a message is sent by one; one is gone
-  AddSender : ℕ → BroadcastAction
-  SendAll : ℕ → ℕ → BroadcastAction
-  EndSender : ℕ → BroadcastAction
-  -- a further receiver: of a sender's channel, of a receiver's, or one that has passed the same messages
-  Subscribe : ℕ → BroadcastAction
-  Resubscribe : ℕ → BroadcastAction
-  CopyReceiver : ℕ → BroadcastAction
-  -- a receiver receives, or is gone
-  Hear : ℕ → BroadcastAction
-  EndReceiver : ℕ → BroadcastAction
-  -- a future that uses a receiver alone is made; it is polled with a waker, or ends
-  BeginHear : ℕ → BroadcastAction
-  PollHear : ℕ → ℕ → BroadcastAction
-  EndHear : ℕ → BroadcastAction
+pub use Rattle.mea_chan_model.specs.declared.broadcast_action.BroadcastAction.{BroadcastAction}
+pub use Rattle.mea_chan_model.specs.declared.broadcast_action.BroadcastAction.TheVariants.{Open, AddSender, SendAll, EndSender, Subscribe, Resubscribe, CopyReceiver, Hear, EndReceiver, BeginHear, PollHear, EndHear}
 
 -- the greatest size of a ring, the greatest number of senders, and the last position
 abbrev pub most_size : ℕ

@@ -6,7 +6,7 @@ use Rattle.mea_by_name.specs.declared.named_waker.NamedWaker.{NamedWaker}
 use Rattle.mea_lock_core.specs.RwLock.{IsSound, MayPoll, is_write}
 use Rattle.mea_lock.specs.Cores.{NamedLock}
 use Rattle.mea_lock.specs.Entries.{KeptLock, KeptFuture, Polled, HasLock, Asks}
-use Rattle.mea_lock.proofs.Lengths.{lock_poll_quiet}
+use Rattle.mea_lock.proofs.Lengths.{lock_poll_leaves}
 
 or_true : (b : Bool) → (b || true) ≡ true
 or_true true = refl
@@ -22,7 +22,7 @@ has_lock old f x waker k new y before after waits writes sound may quiet room po
       held = λ holds. absurd (cc);
       polled = λ _. (k, polled);
       writing = ap (λ (l : NamedLock). l.writing) left_is ∙ ap (λ (l : NamedLock). l.writing) polled.polls.lock ∙ ap (λ b. old.lock.writing || (if b then true else false)) writes ∙ or_true old.lock.writing;
-      quiet = ap (λ (l : NamedLock). l.permits.wakes) left_is ∙ lock_poll_quiet old.lock polled.left x.wait y.wait _ (Ready k) sound polled.polls may ∙ quiet;
+      quiet = ap (λ (l : NamedLock). l.permits.wakes) left_is ∙ (lock_poll_leaves old.lock polled.left x.wait y.wait _ (Ready k) sound polled.polls may).1 ∙ quiet;
       room = omega (arith, polled.counted, room, queue_is);
       rest = polled.future;
     }

@@ -3,7 +3,6 @@ use Rattle.std.proofs.Common.{◌≡◌, ℕ, ◌+◌, ◌≤◌, ◌==◌, ◌|
 use Rattle.std.specs.FinMap.{get, insert, remove}
 use Rattle.mea_family.specs.declared.answer.Answer.{Answer}
 use Rattle.mea_family.specs.declared.answer.Answer.TheVariants as answers
-use Rattle.mea_base.specs.declared.turn.Turn.{Turn}
 use Rattle.mea_base.specs.declared.turn.Turn.TheVariants.{Ready, Pending}
 use Rattle.mea_family.specs.Family.{Outcome, quietly}
 use Rattle.mea_base.specs.Ready.{Waking}
@@ -19,16 +18,17 @@ use Rattle.mea_by_name.proofs.Own.{seen-at, seen-insert, seen-remove, seen-alike
 use Rattle.mea_by_name.specs.declared.named_waker.NamedWaker.{NamedWaker}
 use Rattle.mea_lock_core.specs.RwLock.{MayPoll, MayCancel, share_of, is_write}
 use Rattle.mea_lock_model.specs.Locks as model
-use Rattle.mea_lock_model.specs.Locks.{Lock, LockFuture, Locks, Until, goes_on, taken_from, was_polled, is_condvar_future, is_waiting_for, things_of, registered, tidied_locks, size}
+use Rattle.mea_lock_model.specs.declared.until.Until.{Until}
+use Rattle.mea_lock_model.specs.Locks.{Lock, LockFuture, Locks, goes_on, taken_from, was_polled, is_condvar_future, is_waiting_for, things_of, registered, tidied_locks, size}
 use Rattle.mea_lock_model.specs.Actions.{Action, act_in, Poll, PollUntil, EndWait}
 use Rattle.mea_cores_by_name.specs.Linked.{names_in}
 use Rattle.mea_lock.specs.declared.guard_entry.GuardEntry.{GuardEntry}
-use Rattle.mea_lock.specs.Cores.{NamedLock, CancelsLock, UnlocksLock, IsHeldAs, keeps_out}
+use Rattle.mea_lock.specs.Cores.{NamedLock, CancelsLock, UnlocksLock, IsHeldAs}
 use Rattle.mea_lock.specs.Entries.{KeptLock, KeptFuture, finished, settled, is_over, Settles, EndsLock, Polled, HasLock}
 use Rattle.mea_lock.specs.Waits.{IsNewWait, is_polled}
 use Rattle.mea_lock.specs.Parts.{lock_seen, future_seen, guard_seen, locks_seen, AreKept, AreKeptLocks, of_future, of_guard}
 use Rattle.mea_lock.proofs.OneLock as one
-use Rattle.mea_lock.proofs.PartEvents.{Site, tidied_seen, waiting_tidied, tidied_kept, waiters, part_of, writing_ready, writing_pending, free_ready, kept_out, polled_by, yields_as, no_guard, its_kept, found_lock, waiting_now, turns}
+use Rattle.mea_lock.proofs.PartEvents.{Site, tidied_seen, waiting_tidied, tidied_kept, waiters, part_of, writing_ready, writing_pending, free_ready, polled_by, yields_as, no_guard, its_kept, found_lock, waiting_now, turns}
 
 module _ {old : Part Locks} {i : ℕ} (s : Site old i) where
   -- ---- by a future
@@ -66,9 +66,6 @@ module _ {old : Part Locks} {i : ℕ} (s : Site old i) where
 
     pub future_holds : x.holds ≡ true → IsHeldAs e.lock true
     future_holds holds = one.holder_held e _ _ ((its_kept s) x.lock e there) f x own_future holds
-
-    abbrev share : ℕ
-    share = share_of e.lock (is_write x.wait)
 
     -- ---- it ends
     ends_as : (o : Outcome Locks) → model.end_future (locks_seen s.ls s.fs s.gs) f (future_seen x) (lock_seen e) ≡ o → act_in (locks_seen s.ls s.fs s.gs) i (EndWait f) ≡ o
@@ -306,11 +303,6 @@ module _ {old : Part Locks} {i : ℕ} (s : Site old i) where
         pended_until until = pended_by (PollUntil f w until) (λ on. until_as w until _ (if_true _ _ _ on))
             (λ apart new few. until_as w until _ (if_false _ _ _ apart ∙ if_false _ _ _ (polled_by x.holds (is_polled x.wait) waits_now new) ∙ if_true _ _ _ few))
 
-      -- where what is held keeps it out, it waits
-      pub kept_waiting : (turn : Turn NamedWaker) → Polled e f x w turn e' x' before after → keeps_out (is_write x.wait) e.lock ≡ true
-          → (AreKeptLocks (insert s.ls x.lock e') (insert s.fs f x') s.gs (i + 1)) × PartYields registered old i (act_in old.hall i (Poll f w)) answers.Pending (part_of (insert s.ls x.lock e') (insert s.fs f x') s.gs (i + 1)) before after
-      kept_waiting turn polled out = pended (subst (λ (t : Turn NamedWaker). Polled e f x w t e' x' before after) (kept_out e.lock (is_write x.wait) turn out polled.polls.lets_in) polled) s.gs refl
-
     -- ---- the poll of that of a wait
     -- the outcome of a poll that leaves these
     abbrev Until_yields : ℕ → Until → Answer → KeptLock → Names KeptFuture → Names GuardEntry → Waking ℕ → Waking ℕ → Type 0
@@ -376,22 +368,24 @@ module _ {old : Part Locks} {i : ℕ} (s : Site old i) where
         of_condvar = ap (λ (x : KeptFuture). x.of_condvar) is j;
       }
 
-      pub laid_polled : was_polled (get (seen future_seen (insert s.fs f x')) f) ≡ false
+      laid_polled : was_polled (get (seen future_seen (insert s.fs f x')) f) ≡ false
       laid_polled = ap was_polled (seen-at future_seen (insert s.fs f x') f x' (get-there s.fs f x') ∙ ap (λ y. Some y) laid_seen)
 
-      pub laid : Until_yields w until answers.Pending e' (insert s.fs f x') s.gs before after
+      pub laid : (was_polled (get (seen future_seen (insert s.fs f x')) f) ≡ false) × Until_yields w until answers.Pending e' (insert s.fs f x') s.gs before after
       laid =
           let mine : x'.lock ≡ x.lock = ap (λ (x : KeptFuture). x.lock) is in
           let all : size (lock_seen e1) (is_write x.wait) ≡ e1.lock.most = ap (size (lock_seen e1)) writes in
           let counted = (waiting_now s) x.lock e there laid_lock in
-          let queue = ap (λ (l : NamedLock). length l.permits.queue) unlocks.lock in
-          rw laid_is (
-            (turns s) x.lock e there laid_lock (insert s.fs f x') s.gs (Comes f x' (omega (arith, (s.kept.firsts.at f x future).0, s.later)) mine (λ z at. ap of_future (inside (sym at ∙ future)))) Stays (rw (own-put of_future x.lock s.fs f x' mine) laid_good) (omega (arith, many)),
-            (yields_as s) (λ h. act_in h i (PollUntil f w until)) _ answers.Pending (insert s.ls x.lock laid_lock) (insert s.fs f x') s.gs before after out refl
-                (seen-insert lock_seen s.ls x.lock laid_lock ∙ ap (insert (seen lock_seen s.ls) x.lock) (one.given_seen e1 fs1 _ good e1.lock.most ∙ ap (model.poured (lock_seen e1)) (sym all)))
-                (seen-insert future_seen s.fs f x' ∙ ap (insert (seen future_seen s.fs) f) laid_seen) refl
-                (settles.wakers ∙ (λ j. silent j ++ (ap (λ (l : NamedLock). map (λ (k : NamedWaker). k.waker) l.permits.wakes) unlocks.lock ∙ one.given_woken e1 fs1 _ good e1.lock.most ∙ ap (woken_by (names_in e1.lock.permits.queue)) (sym all)) j))
-                (omega (arith, counted, queue, settles.counted, between_counted)),
+          let queue = ap (λ (l : NamedLock). length l.permits.queue) unlocks.lock in (
+            laid_polled,
+            rw laid_is (
+              (turns s) x.lock e there laid_lock (insert s.fs f x') s.gs (Comes f x' (omega (arith, (s.kept.firsts.at f x future).0, s.later)) mine (λ z at. ap of_future (inside (sym at ∙ future)))) Stays (rw (own-put of_future x.lock s.fs f x' mine) laid_good) (omega (arith, many)),
+              (yields_as s) (λ h. act_in h i (PollUntil f w until)) _ answers.Pending (insert s.ls x.lock laid_lock) (insert s.fs f x') s.gs before after out refl
+                  (seen-insert lock_seen s.ls x.lock laid_lock ∙ ap (insert (seen lock_seen s.ls) x.lock) (one.given_seen e1 fs1 _ good e1.lock.most ∙ ap (model.poured (lock_seen e1)) (sym all)))
+                  (seen-insert future_seen s.fs f x' ∙ ap (insert (seen future_seen s.fs) f) laid_seen) refl
+                  (settles.wakers ∙ (λ j. silent j ++ (ap (λ (l : NamedLock). map (λ (k : NamedWaker). k.waker) l.permits.wakes) unlocks.lock ∙ one.given_woken e1 fs1 _ good e1.lock.most ∙ ap (woken_by (names_in e1.lock.permits.queue)) (sym all)) j))
+                  (omega (arith, counted, queue, settles.counted, between_counted)),
+            ),
           )
 
     module _ (condvar : is_condvar_future old.hall f ≡ true) (w : ℕ) (until : Until) (e' : KeptLock) (x' : KeptFuture) (before after : Waking ℕ) (e1 : KeptLock) (y : KeptFuture) (between : Waking ℕ) (l : NamedLock) (has : HasLock e f x w e1 y before between) (on : goes_on until e1.lock.value ≡ true)
@@ -406,10 +400,8 @@ module _ {old : Part Locks} {i : ℕ} (s : Site old i) where
           let given = rw same.0 at unlocks in
           let settled_is = rw (same.0, same.2) at settles in
           let fresh = rw same.0 at new in
-          let alike : x ≡ record x { wait = x.wait; holds = true } = λ j. record x { holds = holds j } in (
-            laid_polled w until e e' x x' _ ((its_kept s) x.lock e there) own_future (λ z. refl) holds alike refl (condvar_writes condvar) out l before before after given settled_is fresh is refl refl,
-            laid w until e e' x x' _ ((its_kept s) x.lock e there) own_future (λ z. refl) holds alike refl (condvar_writes condvar) out l before before after given settled_is fresh is refl refl,
-          )
+          let alike : x ≡ record x { wait = x.wait; holds = true } = λ j. record x { holds = holds j } in
+          laid w until e e' x x' _ ((its_kept s) x.lock e there) own_future (λ z. refl) holds alike refl (condvar_writes condvar) out l before before after given settled_is fresh is refl refl
 
       module _ (waits_now : x.holds ≡ false) where
         abbrev polled_first : Polled e f x w (Ready (has.polled waits_now).0) e1 y before between
@@ -451,14 +443,8 @@ module _ {old : Part Locks} {i : ℕ} (s : Site old i) where
             let settled_is = rw held_is at settles in
             let fresh = rw held_is at new in
             let left = ap (λ (e : KeptLock). waiters e) (sym polled_first.entry ∙ held_is) in
-            let counted : between.registered + waiters e ≡ before.registered + waiters held_lock = omega (arith, polled_first.counted, left) in (
-              laid_polled w until held_lock e' holder_now x' _ handed_good (get-there (remove (own of_future x.lock s.fs) f) f holder_now) (put_over (own of_future x.lock s.fs)) refl refl refl (condvar_writes condvar) out l before between after given settled_is fresh is polled_first.wakers counted,
-              laid w until held_lock e' holder_now x' _ handed_good (get-there (remove (own of_future x.lock s.fs) f) f holder_now) (put_over (own of_future x.lock s.fs)) refl refl refl (condvar_writes condvar) out l before between after given settled_is fresh is polled_first.wakers counted,
-            )
+            let counted : between.registered + waiters e ≡ before.registered + waiters held_lock = omega (arith, polled_first.counted, left) in
+            laid w until held_lock e' holder_now x' _ handed_good (get-there (remove (own of_future x.lock s.fs) f) f holder_now) (put_over (own of_future x.lock s.fs)) refl refl refl (condvar_writes condvar) out l before between after given settled_is fresh is polled_first.wakers counted
 
       pub until_lays : (gs' : Names GuardEntry) → gs' ≡ s.gs → (was_polled (get (seen future_seen (insert s.fs f x')) f) ≡ false) × Until_yields w until answers.Pending e' (insert s.fs f x') gs' before after
-      until_lays gs' still = rw still (at x.holds refl)
-        where
-          at : (b : Bool) → x.holds ≡ b → Laid
-          at true holds = lays_holding holds
-          at false waits = lays_polled waits
+      until_lays gs' still = rw still (elim x.holds as (λ b. x.holds ≡ b → Laid) [ true ↦ λ holds. lays_holding holds | false ↦ λ waits. lays_polled waits ] refl)

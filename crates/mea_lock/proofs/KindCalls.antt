@@ -12,14 +12,14 @@ use Rattle.mea_lock.specs.Cores.{NamedLock, as_rw, TakesLock, UnlocksLock, keeps
 abbrev Mutex : Type 0
 Mutex = Lock ℕ NamedWaker
 
-some_held : (n : ℕ) → n ≡ 1 → nat_lt 0 n ≡ true
-some_held n is = grind (arith, nat_tests)
-
 none_held : (n : ℕ) → n ≡ 0 → nat_lt 0 n ≡ false
 none_held n is = grind (arith, nat_tests)
 
-all_held : (n : ℕ) → n ≤ 1 → nat_lt 0 n ≡ true → n ≡ 1
-all_held n few is = grind (arith, nat_tests)
+is_some : (n : ℕ) → nat_lt 0 n ≡ true → 1 ≤ n
+is_some n is = grind (arith, nat_tests)
+
+some_is : (n : ℕ) → 1 ≤ n → nat_lt 0 n ≡ true
+some_is n some = grind (arith, nat_tests)
 
 pub sound_rw : (l : Mutex) → mutex.IsSound l → IsSound (as_rw l)
 sound_rw l sound = record {
@@ -28,23 +28,13 @@ sound_rw l sound = record {
   all = sound.one;
   no_debt = sound.no_debt;
   is_open = sound.is_open;
-  alone = λ writing. all_held (held_of l.permits) (omega (arith, sound.permits.total, sound.one)) writing;
+  alone = λ writing. let some = is_some (held_of l.permits) writing in omega (arith, some, sound.permits.total, sound.one);
 }
 
 -- ---- whom they keep out
-is_some : (n : ℕ) → nat_lt 0 n ≡ true → 1 ≤ n
-is_some n is = grind (arith, nat_tests)
-
-some_is : (n : ℕ) → 1 ≤ n → nat_lt 0 n ≡ true
-some_is n some = grind (arith, nat_tests)
-
 some_test : (b : Bool) (n : ℕ) → IsTrue b ↔ (1 ≤ n) → b ≡ nat_lt 0 n
 some_test true n is = sym (some_is n (is.0 refl))
-some_test false n is = at (nat_lt 0 n) refl
-  where
-    at : (t : Bool) → nat_lt 0 n ≡ t → false ≡ nat_lt 0 n
-    at true some = absurd (let no = is.1 (is_some n some) in cc)
-    at false none = sym none
+some_test false n is = elim (nat_lt 0 n) as (λ t. nat_lt 0 n ≡ t → false ≡ nat_lt 0 n) [ true ↦ λ some. absurd (let no = is.1 (is_some n some) in cc) | false ↦ λ none. sym none ] refl
 
 pub mutex_keeps_out : (l : Mutex) (write b : Bool) → IsTrue b ↔ (1 ≤ held_of l.permits) → b ≡ keeps_out write (as_rw l)
 mutex_keeps_out l true b is = some_test b (held_of l.permits) is
@@ -68,7 +58,7 @@ share_one l false = refl
 pub takes_mutex : (l l' : Mutex) (write : Bool) → write ≡ true → l' ≡ record l { permits = record l.permits { free = l.permits.free - 1 } } → held_of l.permits ≡ 0 → held_of l'.permits ≡ 1 → mutex.IsSound l'
     → TakesLock (as_rw l) write (as_rw l')
 takes_mutex l l' true writes is was now sound = record {
-  lock = λ i. record { permits = ap (λ (l : Mutex). l.permits) is i; value = ap (λ (l : Mutex). l.value) is i; most = 1; writing = some_held (held_of l'.permits) now i };
+  lock = λ i. record { permits = ap (λ (l : Mutex). l.permits) is i; value = ap (λ (l : Mutex). l.value) is i; most = 1; writing = some_is (held_of l'.permits) (omega (arith, now)) i };
   alone = was;
   held = omega (arith, was, now);
   sound = sound_rw l' sound;

@@ -18,30 +18,18 @@ use Rattle.mea_lock.specs.Cores.{NamedLock, acquire_of, PollsLock, CancelsLock, 
 use Rattle.mea_sem_core.proofs.Ones.{length-rewaked, length-without}
 
 module _ {W : Type 0} where
-  -- a poll leaves as many in the queue, or one more
-  pub poll_length : (s s' : Core W) (a a' : Acquire) (w : W) (turn : Turn W) → s.closed ≡ false → Polls s a w (Ok turn) s' a' → Belongs s a → IsUnready a
-      → (length s'.queue ≡ length s.queue) ⊎ (length s'.queue ≡ length s.queue + 1)
-  poll_length s s' (New d) a' w turn opened polls belongs unready = elim (cases_lt s.free d) [
-    | inr enough ↦ inl (ap (λ t. length t.queue) (polls.0 enough).1)
-    | inl few ↦ let is = polls.1 few in inr (ap (λ t. length t.queue) is.1.1.is ∙ length-append s.queue ((Acquires is.1.0 d w, d - s.free) ∷ []))
+  -- a poll leaves as many in the queue, or one more, and makes no waker ready
+  poll_leaves : (s s' : Core W) (a a' : Acquire) (w : W) (turn : Turn W) → s.closed ≡ false → Polls s a w (Ok turn) s' a' → Belongs s a → IsUnready a
+      → ((length s'.queue ≡ length s.queue) ⊎ (length s'.queue ≡ length s.queue + 1)) × (s'.wakes ≡ s.wakes)
+  poll_leaves s s' (New d) a' w turn opened polls belongs unready = elim (cases_lt s.free d) [
+    | inr enough ↦ let is = polls.0 enough in (inl (ap (λ t. length t.queue) is.1), ap (λ t. t.wakes) is.1)
+    | inl few ↦ let is = polls.1 few in (inr (ap (λ t. length t.queue) is.1.1.is ∙ length-append s.queue ((Acquires is.1.0 d w, d - s.free) ∷ [])), ap (λ t. t.wakes) is.1.1.is)
   ]
-  poll_length s s' (Queued d n) a' w turn opened polls (inl (inl granted)) unready = inl (let is = polls.0 granted in ap (λ t. length t.queue) is.1)
-  poll_length s s' (Queued d n) a' w turn opened polls (inl (inr waits)) unready = inl (let is = polls.1 waits in ap (λ t. length t.queue) is.1 ∙ length-rewaked s.queue n w)
-  poll_length s s' (Queued d n) a' w turn opened polls (inr cut) unready = absurd (let closed = cut.0 in cc)
-  poll_length s s' (Done d) a' w turn opened polls belongs unready = absurd unready
-  poll_length s s' (Refused d) a' w turn opened polls belongs unready = absurd unready
-
-  -- and makes no waker ready
-  pub poll_quiet : (s s' : Core W) (a a' : Acquire) (w : W) (turn : Turn W) → s.closed ≡ false → Polls s a w (Ok turn) s' a' → Belongs s a → IsUnready a → s'.wakes ≡ s.wakes
-  poll_quiet s s' (New d) a' w turn opened polls belongs unready = elim (cases_lt s.free d) [
-    | inr enough ↦ ap (λ t. t.wakes) (polls.0 enough).1
-    | inl few ↦ let is = polls.1 few in ap (λ t. t.wakes) is.1.1.is
-  ]
-  poll_quiet s s' (Queued d n) a' w turn opened polls (inl (inl granted)) unready = let is = polls.0 granted in ap (λ t. t.wakes) is.1
-  poll_quiet s s' (Queued d n) a' w turn opened polls (inl (inr waits)) unready = let is = polls.1 waits in ap (λ t. t.wakes) is.1
-  poll_quiet s s' (Queued d n) a' w turn opened polls (inr cut) unready = absurd (let closed = cut.0 in cc)
-  poll_quiet s s' (Done d) a' w turn opened polls belongs unready = absurd unready
-  poll_quiet s s' (Refused d) a' w turn opened polls belongs unready = absurd unready
+  poll_leaves s s' (Queued d n) a' w turn opened polls (inl (inl granted)) unready = let is = polls.0 granted in (inl (ap (λ t. length t.queue) is.1), ap (λ t. t.wakes) is.1)
+  poll_leaves s s' (Queued d n) a' w turn opened polls (inl (inr waits)) unready = let is = polls.1 waits in (inl (ap (λ t. length t.queue) is.1 ∙ length-rewaked s.queue n w), ap (λ t. t.wakes) is.1)
+  poll_leaves s s' (Queued d n) a' w turn opened polls (inr cut) unready = absurd (let closed = cut.0 in cc)
+  poll_leaves s s' (Done d) a' w turn opened polls belongs unready = absurd unready
+  poll_leaves s s' (Refused d) a' w turn opened polls belongs unready = absurd unready
 
   length-wakers : (ws : List (Waiter W)) → length (wakers_of ws) ≤ length ws
   length-wakers [] = omega arith
@@ -79,9 +67,9 @@ may_cancel_acquire l (Read a) may = may
 may_cancel_acquire l NewWrite may = tt
 may_cancel_acquire l (Write a) may = may
 
-pub lock_poll_length : (l l' : NamedLock) (x x' : RwWait) (w : NamedWaker) (turn : Turn NamedWaker) → IsSound l → PollsLock l x w turn l' x' → MayPoll l x
-    → (length l'.permits.queue ≡ length l.permits.queue) ⊎ (length l'.permits.queue ≡ length l.permits.queue + 1)
-lock_poll_length l l' x x' w turn sound polls may = let is = may_poll_acquire l x may in poll_length l.permits l'.permits (acquire_of l.most x) (acquire_of l.most x') w turn sound.is_open polls.polls is.0 is.1
+pub lock_poll_leaves : (l l' : NamedLock) (x x' : RwWait) (w : NamedWaker) (turn : Turn NamedWaker) → IsSound l → PollsLock l x w turn l' x' → MayPoll l x
+    → ((length l'.permits.queue ≡ length l.permits.queue) ⊎ (length l'.permits.queue ≡ length l.permits.queue + 1)) × (l'.permits.wakes ≡ l.permits.wakes)
+lock_poll_leaves l l' x x' w turn sound polls may = let is = may_poll_acquire l x may in poll_leaves l.permits l'.permits (acquire_of l.most x) (acquire_of l.most x') w turn sound.is_open polls.polls is.0 is.1
 
 pub lock_cancel_fits : (l l' : NamedLock) (x : RwWait) → CancelsLock l x l' → MayCancel l x → l.permits.wakes ≡ [] → length l'.permits.queue + length l'.permits.wakes ≤ length l.permits.queue
 lock_cancel_fits l l' x cancels may quiet = (cancel_fits l.permits l'.permits (acquire_of l.most x) cancels.cancels (may_cancel_acquire l x may) quiet).fits
@@ -91,6 +79,3 @@ unlock_fits l l' write unlocks quiet = rw (ap (λ (l : NamedLock). l.permits) un
 
 pub lower_fits : (l l' : NamedLock) → LowersLock l l' → l.permits.wakes ≡ [] → length l'.permits.queue + length l'.permits.wakes ≤ length l.permits.queue
 lower_fits l l' lowers quiet = rw (ap (λ (l : NamedLock). l.permits) lowers.lock) ((given_fits l.permits (l.most - 1) quiet).fits)
-
-pub lock_poll_quiet : (l l' : NamedLock) (x x' : RwWait) (w : NamedWaker) (turn : Turn NamedWaker) → IsSound l → PollsLock l x w turn l' x' → MayPoll l x → l'.permits.wakes ≡ l.permits.wakes
-lock_poll_quiet l l' x x' w turn sound polls may = let is = may_poll_acquire l x may in poll_quiet l.permits l'.permits (acquire_of l.most x) (acquire_of l.most x') w turn sound.is_open polls.polls is.0 is.1

@@ -54,19 +54,14 @@ module _ (ws : Names WaitEntry) (apart : NumbersApart ws) (f n : ℕ) (x : WaitE
 
   pub listed_without : (q : List Listed) → AreOf ws q → listed_in (without_wait q n) ≡ named.without (listed_in q) f
   listed_without [] are = refl
-  listed_without (e ∷ q) are = ap (λ b. listed_in (if b then without_wait q n else e ∷ without_wait q n)) (same_test e are.0) ∙ at (e.1.future == f) (listed_without q are.1)
-    where
-      at : (b : Bool) → listed_in (without_wait q n) ≡ named.without (listed_in q) f → listed_in (if b then without_wait q n else e ∷ without_wait q n) ≡ cond b (named.without (listed_in q) f) ((e.1.future, e.1.waker) ∷ named.without (listed_in q) f)
-      at true rest = rest
-      at false rest = ap (λ r. (e.1.future, e.1.waker) ∷ r) rest
+  listed_without (e ∷ q) are = ap (λ b. listed_in (if b then without_wait q n else e ∷ without_wait q n)) (same_test e are.0)
+      ∙ (elim (e.1.future == f) as (λ b. listed_in (if b then without_wait q n else e ∷ without_wait q n) ≡ cond b (named.without (listed_in q) f) ((e.1.future, e.1.waker) ∷ named.without (listed_in q) f))
+      [ true ↦ listed_without q are.1 | false ↦ ap (λ r. (e.1.future, e.1.waker) ∷ r) (listed_without q are.1) ])
 
   pub listed_waits : (q : List Listed) → AreOf ws q → is_some (waker_under q n) ≡ waits (listed_in q) f
   listed_waits [] are = refl
-  listed_waits (e ∷ q) are = ap (λ b. is_some (if b then Some e.1 else waker_under q n)) (same_test e are.0) ∙ at (e.1.future == f) (listed_waits q are.1)
-    where
-      at : (b : Bool) → is_some (waker_under q n) ≡ waits (listed_in q) f → is_some (if b then Some e.1 else waker_under q n) ≡ is_some (cond b (Some e.1.waker) (named.waker_for (listed_in q) f))
-      at true rest = refl
-      at false rest = rest
+  listed_waits (e ∷ q) are = ap (λ b. is_some (if b then Some e.1 else waker_under q n)) (same_test e are.0)
+      ∙ (elim (e.1.future == f) as (λ b. is_some (if b then Some e.1 else waker_under q n) ≡ is_some (cond b (Some e.1.waker) (named.waker_for (listed_in q) f))) [ true ↦ refl | false ↦ listed_waits q are.1 ])
 
   of_with : (w : ℕ) (q : List Listed) → AreOf ws q → AreOf ws (with_waker q n (record { future = f; waker = w }))
   of_with w [] are = tt
@@ -344,18 +339,13 @@ module _ (e : KeptCondvar) (ws : Names WaitEntry) (good : AreListed e ws) where
         mine = ap (λ (y : WaitEntry). y.number) (inside (sym there ∙ first_there.1)) ∙ first_there.2
 
         behind : (m : ℕ) → IsSome (waker_under others m) → IsSome (waker_under queue m)
-        behind m waited = subst (λ q. IsSome (waker_under q m)) (sym first) (at (n == m) waited)
-          where
-            at : (b : Bool) → IsSome (waker_under others m) → IsSome (if b then Some (record { future = f; waker = w }) else waker_under others m)
-            at true had = refl
-            at false had = had
+        behind m waited = subst (λ q. IsSome (waker_under q m)) (sym first) (elim (n == m) as (λ b. IsSome (if b then Some (record { future = f; waker = w }) else waker_under others m)) [ true ↦ refl | false ↦ waited ])
 
         told : (m : ℕ) → Knows e.condvar m → Knows now m
-        told m (inl waited) = at (n == m) refl (subst (λ q. IsSome (waker_under q m)) first waited)
-          where
-            at : (b : Bool) → (n == m) ≡ b → IsSome (if b then Some (record { future = f; waker = w }) else waker_under others m) → Knows now m
-            at true is some = inr (ap is_some (ap (get (insert e.condvar.notified n true)) (sym (eqb-true n m is)) ∙ get-there e.condvar.notified n true))
-            at false is some = inl some
+        told m (inl waited) = elim (n == m) as (λ b. (n == m) ≡ b → IsSome (if b then Some (record { future = f; waker = w }) else waker_under others m) → Knows now m) [
+          | true ↦ λ is some. inr (ap is_some (ap (get (insert e.condvar.notified n true)) (sym (eqb-true n m is)) ∙ get-there e.condvar.notified n true))
+          | false ↦ λ is some. inl some
+        ] refl (subst (λ q. IsSome (waker_under q m)) first waited)
         told m (inr had) = inr (insert-some e.condvar.notified n m true had)
 
         still : (g : ℕ) (y : WaitEntry) → get ws g ≡ Some y → (m : ℕ) → y.number ≡ Some m → Knows now m × (y.polled ≡ true)

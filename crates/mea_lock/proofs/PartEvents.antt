@@ -6,8 +6,7 @@ use Rattle.std.proofs.lemmas.Bool.{cases_lt}
 use Rattle.std.proofs.lemmas.Bool.Decides.{nat_tests}
 use Rattle.mea_family.specs.declared.answer.Answer.{Answer}
 use Rattle.mea_family.specs.declared.answer.Answer.TheVariants as answers
-use Rattle.mea_base.specs.declared.turn.Turn.{Turn}
-use Rattle.mea_base.specs.declared.turn.Turn.TheVariants.{Ready, Pending}
+use Rattle.mea_base.specs.declared.turn.Turn.TheVariants.{Ready}
 use Rattle.mea_family.specs.Causes.{unknown_unless}
 use Rattle.mea_family.specs.Family.{Outcome}
 use Rattle.mea_base.specs.Ready.{Waking}
@@ -23,7 +22,7 @@ use Rattle.mea_by_name.proofs.Cases.{found_is, if_true, if_false}
 use Rattle.mea_by_name.proofs.Halls as halls
 use Rattle.mea_by_name.proofs.Own.{seen-at, seen-back, seen-empty, seen-insert, seen-remove, seen-alike, own-seen, len-seen, total-seen, own-at, own-had, own-none, own-put, own-gone, len-some, count-gone, insert_same, put_gone, gone_none, Moves, Stays, Comes, Goes}
 use Rattle.mea_by_name.specs.declared.named_waker.NamedWaker.{NamedWaker}
-use Rattle.mea_lock_core.specs.RwLock.{LetsIn, share_of}
+use Rattle.mea_lock_core.specs.RwLock.{LetsIn, share_of, is_write}
 use Rattle.mea_lock_model.specs.Locks as model
 use Rattle.mea_lock_model.specs.Locks.{Lock, LockFuture, LockGuard, Locks, is_named, is_named_lock, is_future, is_condvar_future, is_waiting_for, is_guard, things_of, plain_of, registered, tidied_locks, size}
 use Rattle.mea_lock_model.specs.Valid.{held_by, FitGuards}
@@ -32,7 +31,7 @@ use Rattle.mea_lock_model.specs.Meaning.{cause_at}
 use Rattle.mea_cores_by_name.specs.Linked.{names_in}
 use Rattle.mea_lock.specs.declared.guard_entry.GuardEntry.{GuardEntry}
 use Rattle.mea_lock.specs.Cores.{NamedLock, TakesLock, UnlocksLock, LowersLock, IsHeldAs, IsFreeFor, keeps_out}
-use Rattle.mea_lock.specs.Entries.{KeptLock, KeptFuture, begun, finished, settled, is_over, Settles}
+use Rattle.mea_lock.specs.Entries.{KeptLock, KeptFuture, begun, finished, settled, is_over, Settles, HasLock}
 use Rattle.mea_lock.specs.Waits.{IsNewWait, is_polled}
 use Rattle.mea_lock.specs.Parts.{lock_seen, future_seen, guard_seen, locks_seen, held_by as held_of_guards, held_in, AreKept, AreKeptLocks, IsNewLock, of_future, of_guard}
 use Rattle.mea_lock.specs.Lends.{StandsFor, has_permits, HasNoWait}
@@ -199,11 +198,16 @@ pub free_ready : (l : NamedLock) (k : NamedWaker) (w : Bool) → LetsIn w l (Rea
 free_ready l k true lets = lets
 free_ready l k false lets = lets
 
--- and what is held against it makes it wait
-pub kept_out : (l : NamedLock) (w : Bool) (turn : Turn NamedWaker) → keeps_out w l ≡ true → LetsIn w l turn → turn ≡ Pending
-kept_out l w Pending out lets = refl
-kept_out l true (Ready k) out lets = absurd (let no : ◌≡◌ {A = Bool} true false = sym out ∙ ap (λ n. nat_lt 0 n) lets in cc)
-kept_out l false (Ready k) out lets = absurd (let no : ◌≡◌ {A = Bool} true false = sym out ∙ lets in cc)
+-- and nothing that is held keeps out whom it lets in
+pub let_in : (l : NamedLock) (w holds : Bool) (k : NamedWaker) → LetsIn w l (Ready k) → (holds || not (keeps_out w l)) ≡ true
+let_in l w true k lets = refl
+let_in l true false k lets = ap (λ n. not (nat_lt 0 n)) lets
+let_in l false false k lets = ap not lets
+
+-- nor who has it after its poll
+pub may_have_it : (old : KeptLock) (f : ℕ) (x : KeptFuture) (waker : ℕ) (new : KeptLock) (y : KeptFuture) (before after : Waking ℕ) → HasLock old f x waker new y before after → (x.holds || not (keeps_out (is_write x.wait) old.lock)) ≡ true
+may_have_it old f x waker new y before after has = elim x.holds as (λ b. x.holds ≡ b → (b || not (keeps_out (is_write x.wait) old.lock)) ≡ true)
+    [ true ↦ λ holds. refl | false ↦ λ waits. let polled = has.polled waits in let_in old.lock (is_write x.wait) false polled.0 polled.1.polls.lets_in ] refl
 
 -- a future that does not hold the lock was polled as its wait was
 pub polled_by : (holds polled : Bool) → holds ≡ false → {b : Bool} → polled ≡ b → (holds || polled) ≡ b

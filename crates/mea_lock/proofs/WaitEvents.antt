@@ -28,7 +28,9 @@ use Rattle.mea_lock_model.specs.Condvars as model
 use Rattle.mea_lock_model.specs.Condvars.{Condvars, CondWait, is_condvar, is_wait, waits_of, until_of, registered}
 use Rattle.mea_family.specs.declared.stop.Stop.TheVariants as stops
 use Rattle.mea_lock_model.specs.Actions.{Action, Hand, PollUntil, EndWait, act_in}
-use Rattle.mea_lock_model.specs.CondActions.{CondAction, Make, Wait, Poll, One, All, End, Drop, act_on, on_both, told_by}
+use Rattle.mea_lock_model.specs.declared.cond_action.CondAction.{CondAction}
+use Rattle.mea_lock_model.specs.declared.cond_action.CondAction.TheVariants.{Make, Wait, Poll, One, All, End, Drop}
+use Rattle.mea_lock_model.specs.CondActions.{act_on, on_both, told_by}
 use Rattle.mea_lock_model.specs.LockHall.{LockHall}
 use Rattle.mea_lock.specs.declared.wait_entry.WaitEntry.{WaitEntry}
 use Rattle.mea_lock.specs.CondEntries.{KeptCondvar, listed_in, wakers_in, condvar_seen, wait_seen, IsWaitingUnder, rewoken_under, left_under, forgotten_under, NotifiesFirst, NotifiesEach}
@@ -199,12 +201,6 @@ module _ {old : Part Condvars} {i : ℕ} (s : Site old i) where
 
     pub its_room : (before : Waking ℕ) → registered old.hall ≤ before.registered → waiters e ≤ before.registered
     its_room before room = omega (arith, room_in before room, total-has (λ o e. waiters e) s.cs c e there)
-
-    pub few_waits : e.waits + 1 < 2 ^ 128
-    few_waits =
-        let low = s.kept.below c e there in
-        let all = s.kept.low in
-        omega (arith, low.1)
 
     found_condvar : (h : LockHall) (act : Waiting → Outcome LockHall) → found (get (seen condvar_seen s.cs) c) h act ≡ act (condvar_seen e)
     found_condvar h act = found_is _ h act (condvar_seen e) (seen-at condvar_seen s.cs c e there)

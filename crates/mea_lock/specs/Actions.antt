@@ -3,14 +3,11 @@ use Rattle.std.specs.Prelude.{◌≡◌, true}
 use Rattle.mea_family.specs.Forms.{is_plain}
 use Rattle.mea_lock_model.specs.Actions as model
 use Rattle.mea_lock_model.specs.Actions.{Action}
-use Rattle.mea_lock_model.specs.CondActions as on_condvars
 use Rattle.mea_lock_model.specs.LockHall as kinds
 use Rattle.mea_lock_model.specs.Meaning as model_meaning
 use Rattle.mea_lock_model.specs.Meaning.{OnLocks, OnCondvars}
 use Rattle.mea_lock.specs.declared.actions.LockAction.{LockAction}
 use Rattle.mea_lock.specs.declared.actions.LockAction.TheVariants.{Make, Begin, Poll, Try, Get, Set, End, Peek, Put, Take, Drop}
-use Rattle.mea_lock.specs.declared.actions.CondAction.{CondAction}
-use Rattle.mea_lock.specs.declared.actions.CondAction.TheVariants as cond
 use Rattle.mea_lock.specs.declared.meaning.Meaning.{Meaning}
 use Rattle.mea_lock.specs.declared.meaning.Meaning.TheVariants.{Mutexes, RwLocks, Lowers, Condvars}
 use Rattle.mea_lock.specs.Accesses.{writes}
@@ -29,22 +26,12 @@ lock_action (Put o v) = model.Put o v
 lock_action (Take o) = model.Take o
 lock_action (Drop o) = model.Drop o
 
--- what is done to condition variables
-abbrev pub cond_action : CondAction → on_condvars.CondAction
-cond_action cond.Make = on_condvars.Make
-cond_action (cond.Wait c g bound) = on_condvars.Wait c g bound
-cond_action (cond.Poll f w) = on_condvars.Poll f w
-cond_action (cond.One c) = on_condvars.One c
-cond_action (cond.All c) = on_condvars.All c
-cond_action (cond.End f) = on_condvars.End f
-cond_action (cond.Drop c) = on_condvars.Drop c
-
 -- what a line means, in the words of the model
 abbrev pub meant : Meaning → model_meaning.Meaning
 meant (Mutexes a) = OnLocks kinds.Mutexes (lock_action a)
 meant (RwLocks a) = OnLocks kinds.RwLocks (lock_action a)
 meant (Lowers g) = OnLocks kinds.RwLocks (model.Lower g)
-meant (Condvars a) = OnCondvars (cond_action a)
+meant (Condvars a) = OnCondvars a
 
 -- a mutex has one permit, and its futures and guards write
 abbrev pub FitsMutex : LockAction → Type 0

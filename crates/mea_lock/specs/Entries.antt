@@ -8,7 +8,8 @@ use Rattle.mea_by_name.specs.declared.named_waker.NamedWaker.{NamedWaker}
 use Rattle.mea_by_name.specs.NamedWaker.{waker_code}
 use Rattle.mea_lock_core.specs.RwLock.{rw_code}
 use Rattle.mea_lock_core.specs.declared.rw_wait.RwWait.{RwWait}
-use Rattle.mea_lock_model.specs.Locks.{Until, goes_on}
+use Rattle.mea_lock_model.specs.declared.until.Until.{Until}
+use Rattle.mea_lock_model.specs.Locks.{goes_on}
 use Rattle.mea_lock.specs.declared.until.Asked.{Asked}
 use Rattle.mea_lock.specs.declared.until.Asked.TheVariants as asked
 use Rattle.mea_lock.specs.Waits.{IsNewWait}

@@ -12,8 +12,9 @@ use Rattle.mea_lock_model.specs.Locks.{Locks}
 use Rattle.mea_lock_model.specs.Condvars as condvars
 use Rattle.mea_lock_model.specs.Condvars.{Condvars}
 use Rattle.mea_lock_model.specs.Actions.{Action, Make, Begin, Poll, Try, Hand, PollUntil, act_in}
-use Rattle.mea_lock_model.specs.CondActions as on
-use Rattle.mea_lock_model.specs.CondActions.{CondAction, cause_with, act_on}
+use Rattle.mea_lock_model.specs.declared.cond_action.CondAction.TheVariants as on
+use Rattle.mea_lock_model.specs.declared.cond_action.CondAction.{CondAction}
+use Rattle.mea_lock_model.specs.CondActions.{cause_with, act_on}
 use Rattle.mea_lock_model.specs.LockHall.{LockHall, Mutexes, RwLocks}
 use Rattle.mea_lock_model.specs.Meaning.{Meaning, OnLocks, OnCondvars, meaning_of, cause_at, cause_by}
 

@@ -4,20 +4,11 @@ use Rattle.mea_sem_core.specs.declared.acquire.Acquire.{Acquire}
 use Rattle.mea_sem_core.specs.declared.acquire.Acquire.TheVariants as acquire
 use Rattle.mea_lock_core.specs.RwLock.{share_of, is_write}
 use Rattle.mea_lock_core.specs.declared.rw_wait.RwWait.{RwWait}
-use Rattle.mea_lock_model.specs.Locks as model
 use Rattle.mea_lock.specs.Cores.{NamedLock, acquire_of}
 use Rattle.mea_family.specs.declared.answer.Answer.{Answer}
 use Rattle.mea_family.specs.declared.answer.Answer.TheVariants as answers
 use Rattle.mea_lock.specs.declared.until.Asked.{Asked}
 use Rattle.mea_lock.specs.declared.until.Asked.TheVariants as asked
-use Rattle.mea_lock.specs.declared.until.Until.{Until}
-use Rattle.mea_lock.specs.declared.until.Until.TheVariants.{Held, Reached, Never}
-
--- when a wait is ready, as the model says it
-abbrev pub until_seen : Until → model.Until
-until_seen Held = model.Held
-until_seen (Reached v) = model.Reached v
-until_seen Never = model.Never
 
 -- what was replied, and whether a future that is pending asks for the lock
 abbrev pub answer_to : Asked → Answer

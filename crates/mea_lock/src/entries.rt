@@ -1,14 +1,15 @@
 ghost use Rattle.std.specs.Prelude.{ℕ, ◌≡◌, ◌+◌, ◌-◌, ◌<◌, ◌≤◌, ◌^◌, ◌++◌, ◌||◌, [], nat_lt, length, map, cond, true, false, not, IfOk, OnErr};
 ghost use Rattle.mea_lock_core.specs.RwLock.{MayPoll, MayCancel, share_of, is_write};
 ghost use Rattle.mea_lock.specs.Cores.{NamedLock, CancelsLock, TakesLock, UnlocksLock, LowersLock, IsHeldAs, keeps_out};
-ghost use Rattle.mea_lock.specs.Waits.{IsNewWait, until_seen};
+ghost use Rattle.mea_lock.specs.Waits.{IsNewWait};
 
 use crate::guard_entry::GuardEntry;
 use crate::lock_core::{LockCore, LoweredCore};
-use crate::until::{Asked, Until};
+use crate::until::{Asked, goes_on};
 use mea_base::{NoMemory, Ready, Turn};
 use mea_by_name::NamedWaker;
 use mea_family::one_if;
+use mea_lock_model::Until;
 use std::marker::Model;
 
 /// What a hall keeps of a lock. Only its polls take memory.
@@ -170,11 +171,11 @@ impl<C: LockCore> LockEntry<C> {
         !self.named && self.things == 0
     }
 
-    /// Whether what is held keeps a future out, so that its poll waits.
-    pub fn keeps_out(&self, future: &FutureEntry<C>) -> bool
-        ensures { result ≡ keeps_out (is_write future.now.wait) self.now.lock }
+    /// Whether a future may have the lock at its poll: it holds it, or nothing that is held keeps it out.
+    pub fn may_have(&self, future: &FutureEntry<C>) -> bool
+        ensures { result ≡ (future.now.holds || not (keeps_out (is_write future.now.wait) self.now.lock)) }
     {
-        self.core.keeps_out(C::writes(&future.wait))
+        future.holds || !self.core.keeps_out(C::writes(&future.wait))
     }
 
     /// One future or guard more.
@@ -294,13 +295,13 @@ impl<C: LockCore> LockEntry<C> {
         requires writes { is_write future.old.wait ≡ true }
         requires quiet { self.old.lock.permits.wakes ≡ [] }
         requires room { length self.old.lock.permits.queue ≤ ready.old.registered }
-        ensures polls { IfOk result (λ asked. PolledUntil self.old f future.old waker (until_seen until) asked self.new future.new ready.old ready.new) }
+        ensures polls { IfOk result (λ asked. PolledUntil self.old f future.old waker until asked self.new future.new ready.old ready.new) }
         ensures err { OnErr result ((self.new ≡ self.old) × (future.new ≡ future.old) × (ready.new ≡ ready.old)) }
     {
         if !self.ask(f, future, waker, ready)? {
             return Ok(Asked::Asks);
         }
-        if !until.goes_on(self.core.value_by(true)) {
+        if !goes_on(until, self.core.value_by(true)) {
             return Ok(Asked::Ready);
         }
         future.wait = self.core.new_wait(true);

@@ -3,9 +3,10 @@ ghost use Rattle.mea_lock_model.specs.Meaning.{meaning_of};
 ghost use Rattle.mea_lock.specs.Actions.{meant, FitsMeaning};
 
 use crate::access::Access;
-use crate::actions::{CondAction, LockAction};
+use crate::actions::LockAction;
 use mea_events::LockEvent;
 use mea_family::Form;
+use mea_lock_model::CondAction;
 
 /// The most that may read at a time, where a script gives no number.
 const MOST_READERS: usize = 9223372036854775807;

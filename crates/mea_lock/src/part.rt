@@ -1,4 +1,4 @@
-ghost use Rattle.std.specs.Prelude.{◌≡◌, ◌≢◌, ◌≤◌, OnErr, IfOk, IfSome, IfNone, is_some, not, None, Some, true, false, if◌then◌else◌};
+ghost use Rattle.std.specs.Prelude.{◌≡◌, ◌≢◌, ◌≤◌, OnErr, OnOk, IfOk, IfSome, IfNone, is_some, not, None, Some, true, false, if◌then◌else◌};
 ghost use Rattle.std.specs.FinMap as map;
 ghost use Rattle.std.specs.Option.{option_map};
 ghost use Rattle.mea_family.specs.Causes.{borrowed_by};
@@ -13,17 +13,18 @@ ghost use Rattle.mea_lock.specs.Actions.{lock_action, FitsMutex};
 ghost use Rattle.mea_lock.specs.Halls.{Acts, ActsQuietly};
 ghost use Rattle.mea_lock.specs.Parts.{guard_seen};
 ghost use Rattle.mea_lock.specs.Lends.{StandsFor};
-ghost use Rattle.mea_lock.specs.Waits.{until_seen, answer_to, AsksFor};
+ghost use Rattle.mea_lock.specs.Waits.{answer_to, AsksFor};
 
 use crate::access::Access;
 use crate::actions::LockAction;
 use crate::entries::{FutureEntry, LockEntry};
 use crate::guard_entry::GuardEntry;
 use crate::lock_core::{LockCore, LoweredCore};
-use crate::until::{Asked, Until};
+use crate::until::Asked;
 use mea_base::{NoMemory, Ready, Turn};
 use mea_by_name::{ByName, Roomy};
 use mea_family::{Answer, Form, Stop, borrowed_if, unknown_unless, zero_if};
+use mea_lock_model::Until;
 use std::alloc::Global;
 use std::marker::Model;
 
@@ -267,14 +268,7 @@ impl<C: LockCore> LockPart<C> {
         }
         let guard = future.guard();
         let entry = self.locks.at_mut(guard.lock);
-        if entry.keeps_out(future) {
-            let Ok(_) = entry.poll(f, future, waker, ready) else {
-                return Err(Stop::NoMemory);
-            };
-            self.next = number as u128 + 1;
-            return Ok(Answer::Pending);
-        }
-        let Ok(()) = self.guards.reserve(1) else {
+        let Ok(()) = make_room(&mut self.guards, entry.may_have(future)) else {
             return Err(Stop::NoMemory);
         };
         match entry.poll(f, future, waker, ready) {
@@ -314,7 +308,7 @@ impl<C: LockCore> LockPart<C> {
     }
 
     /// Polls the future of a wait, which gives the lock up again where it goes on at the value. Room for the guard is
-    /// made first. On an error nothing has changed.
+    /// made first, but where what is held keeps the future out. On an error nothing has changed.
     pub fn poll_until(
         &mut self,
         number: u64,
@@ -326,14 +320,14 @@ impl<C: LockCore> LockPart<C> {
         requires next { self.old.next ≤ number }
         requires there { is_condvar_future self.old.hall f ≡ true }
         requires room { registered self.old.hall ≤ ready.old.registered }
-        ensures ok { IfOk result (λ asked. PartYields registered self.old number (act_in self.old.hall number (PollUntil f waker (until_seen until))) (answer_to asked) self.new ready.old ready.new) }
+        ensures ok { IfOk result (λ asked. PartYields registered self.old number (act_in self.old.hall number (PollUntil f waker until)) (answer_to asked) self.new ready.old ready.new) }
         ensures asked { IfOk result (λ asked. AsksFor asked (was_polled (map.get self.new.hall.futures f))) }
         ensures err { OnErr result ((self.new ≡ self.old) × (ready.new ≡ ready.old)) }
     {
         let future = self.futures.at_mut(f);
         let guard = future.guard();
         let entry = self.locks.at_mut(guard.lock);
-        let Ok(()) = self.guards.reserve(1) else {
+        let Ok(()) = make_room(&mut self.guards, entry.may_have(future)) else {
             return Err(NoMemory);
         };
         match entry.poll_until(f, future, waker, until, ready) {
@@ -533,4 +527,12 @@ impl<C: LoweredCore> LockPart<C> {
         self.next = number as u128 + 1;
         Ok(Answer::Done)
     }
+}
+
+// Makes room for a guard, where one may be made. On an error no guard has changed.
+fn make_room(guards: &mut Roomy<GuardEntry>, may: bool) -> Result<(), NoMemory>
+    ensures room { OnOk result (may ≡ true → 1 ≤ guards.new.spare) }
+    ensures things { guards.new.things ≡ guards.old.things }
+{
+    if may { guards.reserve(1) } else { Ok(()) }
 }

@@ -1,28 +1,16 @@
 ghost use Rattle.std.specs.Prelude.{◌≡◌};
 ghost use Rattle.mea_lock_model.specs.Locks.{goes_on};
-ghost use Rattle.mea_lock.specs.Waits.{until_seen};
 
-/// When a wait on a condition variable that has the lock is ready.
-#[derive(Clone, Copy)]
-pub enum Until {
-    /// At once.
-    Held,
-    /// Where the value is at least this.
-    Reached(u64),
-    /// Never: it gives the lock up.
-    Never,
-}
+use mea_lock_model::Until;
 
-impl Until {
-    /// Whether it goes on waiting at a value.
-    pub fn goes_on(self, value: u64) -> bool
-        ensures { result ≡ goes_on (until_seen self) value }
-    {
-        match self {
-            Until::Held => false,
-            Until::Reached(least) => value < least,
-            Until::Never => true,
-        }
+/// Whether a wait that has the lock goes on waiting at a value.
+pub fn goes_on(until: Until, value: u64) -> bool
+    ensures { result ≡ goes_on until value }
+{
+    match until {
+        Until::Held => false,
+        Until::Reached(least) => value < least,
+        Until::Never => true,
     }
 }
 

@@ -5,22 +5,21 @@ ghost use Rattle.mea_family.specs.Play.{Part};
 ghost use Rattle.mea_lock_model.specs.Condvars.{no_condvars, is_condvar, is_wait, waits_of, until_of, registered};
 ghost use Rattle.mea_lock_model.specs.Locks as locks;
 ghost use Rattle.mea_lock_model.specs.Locks.{Locks, is_condvar_future};
-ghost use Rattle.mea_lock_model.specs.CondActions.{cause_with, Make, Wait, Poll, One, All, End, Drop};
-ghost use Rattle.mea_lock.specs.Actions.{cond_action};
+ghost use Rattle.mea_lock_model.specs.declared.cond_action.CondAction.TheVariants.{Make, Wait, Poll, One, All, End, Drop};
+ghost use Rattle.mea_lock_model.specs.CondActions.{cause_with};
 ghost use Rattle.mea_lock.specs.Halls.{ActsOn};
-ghost use Rattle.mea_lock.specs.Waits.{until_seen};
 ghost use Rattle.mea_lock.specs.CondEntries.{wait_seen};
 ghost use Rattle.mea_lock.specs.Lends.{ListsAs};
 
-use crate::actions::CondAction;
 use crate::condvar_entry::CondvarEntry;
 use crate::part::LockPart;
-use crate::until::{Asked, Until};
+use crate::until::Asked;
 use crate::wait_entry::WaitEntry;
 use mea_base::Ready;
 use mea_by_name::{ByName, NamedWaker};
 use mea_family::{Answer, Stop, borrowed_if, unknown_unless};
 use mea_lock_core::{CondvarCore, MutexCore};
+use mea_lock_model::{CondAction, Until};
 use std::alloc::Global;
 use std::marker::Model;
 
@@ -57,7 +56,7 @@ impl Model for WaitPart {
 
 // When the wait is ready that has the lock.
 fn until_of(wait: &WaitEntry) -> Until
-    ensures { until_seen result ≡ until_of (wait_seen wait.now) }
+    ensures { result ≡ until_of (wait_seen wait.now) }
 {
     match wait.bound {
         Some(bound) => Until::Reached(bound),
@@ -95,7 +94,7 @@ impl WaitPart {
 
     /// Why an action is refused; None where it is not. It takes no memory.
     pub fn cause(&self, mutexes: &Mutexes, action: CondAction) -> Option<Stop>
-        ensures { result ≡ cause_with mutexes.now.hall self.now.hall (cond_action action) }
+        ensures { result ≡ cause_with mutexes.now.hall self.now.hall action }
     {
         match action {
             CondAction::Make => None,
@@ -121,7 +120,7 @@ impl WaitPart {
         requires next { self.old.next ≤ number }
         requires mutexes { mutexes.old.next ≤ number }
         requires room { locks.registered mutexes.old.hall + registered self.old.hall ≤ ready.old.registered }
-        ensures { ActsOn mutexes.old self.old number (cond_action action) result mutexes.new self.new ready.old ready.new }
+        ensures { ActsOn mutexes.old self.old number action result mutexes.new self.new ready.old ready.new }
     {
         match action {
             CondAction::Make => self.make(number),

@@ -1,5 +1,5 @@
 -- the laws of the family
-use Rattle.std.proofs.Common.{◌≡◌, ℕ, ◌<◌, ◌≤◌, ◌==◌, ◌&&◌, ◌⊎◌, inl, inr, ◌++◌, Bool, true, false, cond, List, [], ◌∷◌, nat_lt, Option, Some, None, is_some, if◌then◌else◌, refl, ap, sym, subst, ◌∙◌}
+use Rattle.std.proofs.Common.{◌≡◌, ℕ, ◌<◌, ◌≤◌, ◌==◌, ◌⊎◌, inl, inr, ◌++◌, Bool, true, false, cond, List, [], ◌∷◌, nat_lt, Option, Some, None, is_some, if◌then◌else◌, refl, ap, sym, subst, ◌∙◌}
 use Rattle.std.specs.Option.{IsSome}
 use Rattle.std.specs.List.{Contains}
 use Rattle.std.specs.FinMap.{get, insert, empty}
@@ -23,7 +23,7 @@ use Rattle.mea_lock_model.specs.Locks as locks
 use Rattle.mea_lock_model.specs.Locks.{Lock, LockFuture, Locks, Until, goes_on, is_waiting_for, is_lock_future, is_condvar_future, was_polled, waiting_at, taken_from, size}
 use Rattle.mea_lock_model.specs.Condvars as condvars
 use Rattle.mea_lock_model.specs.Condvars.{CondWait, is_wait, until_of, queue_of}
-use Rattle.mea_lock_model.specs.Actions.{Action, Make, Begin, Poll, Try, Get, Set, Lower, End, Peek, Put, Take, Drop, Hand, PollUntil, EndWait, is_of_wait, act_in, polled_in, ends_in, cause_in}
+use Rattle.mea_lock_model.specs.Actions.{Action, Poll, End, PollUntil, EndWait, is_of_wait, act_in, polled_in, ends_in, cause_in}
 use Rattle.mea_lock_model.specs.CondActions as on
 use Rattle.mea_lock_model.specs.CondActions.{CondAction, cause_on, act_on, on_both, told_by, poll_wait, polled_on, ends_on}
 use Rattle.mea_lock_model.specs.LockHall.{LockHall, Kind, Mutexes, RwLocks, part}
@@ -87,19 +87,7 @@ module _ (h : Locks) (i : ℕ) where
 same_poll : (a : Action) (f w : ℕ) (P : Action → Type 0) → ((v : ℕ) → v ≡ w → P (Poll f v)) → ((v : ℕ) (until : Until) → v ≡ w → P (PollUntil f v until)) → polled_in a f ≡ Some w → P a
 same_poll (Poll g v) f w P here there is = let test = cond_some (g == f) v w is in subst (λ j. P (Poll j v)) (sym (eqb-true g f test.0)) (here v test.1)
 same_poll (PollUntil g v until) f w P here there is = let test = cond_some (g == f) v w is in subst (λ j. P (PollUntil j v until)) (sym (eqb-true g f test.0)) (there v until test.1)
-same_poll (Make v most) f w P here there is = absurd (cc)
-same_poll (Begin o plain writes) f w P here there is = absurd (cc)
-same_poll (Try o plain writes) f w P here there is = absurd (cc)
-same_poll (Get g) f w P here there is = absurd (cc)
-same_poll (Set g v) f w P here there is = absurd (cc)
-same_poll (Lower g) f w P here there is = absurd (cc)
-same_poll (End k) f w P here there is = absurd (cc)
-same_poll (Peek o) f w P here there is = absurd (cc)
-same_poll (Put o v) f w P here there is = absurd (cc)
-same_poll (Take o) f w P here there is = absurd (cc)
-same_poll (Drop o) f w P here there is = absurd (cc)
-same_poll (Hand g) f w P here there is = absurd (cc)
-same_poll (EndWait k) f w P here there is = absurd (cc)
+same_poll _ f w P here there is = absurd (cc)
 
 -- ---- the waits
 module _ (h : LockHall) (i : ℕ) where
@@ -140,12 +128,7 @@ module _ (h : LockHall) (i : ℕ) where
 
 same_wait_poll : (a : CondAction) (f w : ℕ) (P : CondAction → Type 0) → ((v : ℕ) → v ≡ w → P (on.Poll f v)) → polled_on a f ≡ Some w → P a
 same_wait_poll (on.Poll g v) f w P here is = let test = cond_some (g == f) v w is in subst (λ j. P (on.Poll j v)) (sym (eqb-true g f test.0)) (here v test.1)
-same_wait_poll on.Make f w P here is = absurd (cc)
-same_wait_poll (on.Wait c g bound) f w P here is = absurd (cc)
-same_wait_poll (on.One c) f w P here is = absurd (cc)
-same_wait_poll (on.All c) f w P here is = absurd (cc)
-same_wait_poll (on.End k) f w P here is = absurd (cc)
-same_wait_poll (on.Drop c) f w P here is = absurd (cc)
+same_wait_poll _ f w P here is = absurd (cc)
 
 -- ---- whom an event polls or ends is of its sort
 data PolledAs (f w : ℕ) : Meaning → Sort → Type 0 where
@@ -156,12 +139,7 @@ polled_as : (d : Meaning) (s : Sort) (f w : ℕ) → polled_by d s f ≡ Some w 
 polled_as (OnLocks Mutexes a) (Of Mutexes) f w is = AtLock Mutexes a is
 polled_as (OnLocks RwLocks a) (Of RwLocks) f w is = AtLock RwLocks a is
 polled_as (OnCondvars a) Waits f w is = AtWait a is
-polled_as (OnLocks Mutexes a) (Of RwLocks) f w is = absurd (cc)
-polled_as (OnLocks RwLocks a) (Of Mutexes) f w is = absurd (cc)
-polled_as (OnLocks Mutexes a) Waits f w is = absurd (cc)
-polled_as (OnLocks RwLocks a) Waits f w is = absurd (cc)
-polled_as (OnCondvars a) (Of Mutexes) f w is = absurd (cc)
-polled_as (OnCondvars a) (Of RwLocks) f w is = absurd (cc)
+polled_as _ _ f w is = absurd (cc)
 
 data EndedAs (f : ℕ) : Meaning → Sort → Type 0 where
   EndsAtLock : (k : Kind) (a : Action) → ends_in a f ≡ true → EndedAs f (OnLocks k a) (Of k)
@@ -171,12 +149,7 @@ ended_as : (d : Meaning) (s : Sort) (f : ℕ) → ends_by d s f ≡ true → End
 ended_as (OnLocks Mutexes a) (Of Mutexes) f is = EndsAtLock Mutexes a is
 ended_as (OnLocks RwLocks a) (Of RwLocks) f is = EndsAtLock RwLocks a is
 ended_as (OnCondvars a) Waits f is = EndsAtWait a is
-ended_as (OnLocks Mutexes a) (Of RwLocks) f is = absurd (cc)
-ended_as (OnLocks RwLocks a) (Of Mutexes) f is = absurd (cc)
-ended_as (OnLocks Mutexes a) Waits f is = absurd (cc)
-ended_as (OnLocks RwLocks a) Waits f is = absurd (cc)
-ended_as (OnCondvars a) (Of Mutexes) f is = absurd (cc)
-ended_as (OnCondvars a) (Of RwLocks) f is = absurd (cc)
+ended_as _ _ f is = absurd (cc)
 
 -- ---- whom an event neither polls nor ends, it leaves alone in each part
 apart_by_sort : (m : Locks) (f g : ℕ) → is_lock_future m f ≡ true → is_condvar_future m g ≡ true → f ≡ g → ⊥
@@ -194,11 +167,7 @@ module _ (h : LockHall) (f : ℕ) where
   quiet_at_condvars : is_lock_future h.mutexes f ≡ true → (a : CondAction) → cause_on h a ≡ None → IsQuiet (polled_on a f) (ends_on a f)
   quiet_at_condvars lives (on.Poll g w) allowed = (quiet_poll g w f (λ same. apart_by_sort h.mutexes f g lives (both_known (is_wait h.condvars g) (is_condvar_future h.mutexes g) allowed).1 (sym same)), refl)
   quiet_at_condvars lives (on.End g) allowed = (refl, ne_eqb g f (λ same. apart_by_sort h.mutexes f g lives (both_known (is_wait h.condvars g) (is_condvar_future h.mutexes g) allowed).1 (sym same)))
-  quiet_at_condvars lives on.Make allowed = (refl, refl)
-  quiet_at_condvars lives (on.Wait c g bound) allowed = (refl, refl)
-  quiet_at_condvars lives (on.One c) allowed = (refl, refl)
-  quiet_at_condvars lives (on.All c) allowed = (refl, refl)
-  quiet_at_condvars lives (on.Drop c) allowed = (refl, refl)
+  quiet_at_condvars lives _ allowed = (refl, refl)
 
   -- a wait
   quiet_at_mutexes : is_condvar_future h.mutexes f ≡ true → (a : Action) → is_of_wait a ≡ false → cause_in h.mutexes a ≡ None → IsQuiet (polled_in a f) (ends_in a f)
@@ -208,19 +177,9 @@ module _ (h : LockHall) (f : ℕ) where
       at : (o : Option LockFuture) → is_waiting_for true o ≡ true → (if is_some o then is_waiting_for false o else is_some (get h.mutexes.guards f)) ≡ true → ⊥
       at None condvar lock = absurd (cc)
       at (Some x) condvar lock = absurd (cc)
-  quiet_at_mutexes lives (Make v most) line allowed = (refl, refl)
-  quiet_at_mutexes lives (Begin o plain writes) line allowed = (refl, refl)
-  quiet_at_mutexes lives (Try o plain writes) line allowed = (refl, refl)
-  quiet_at_mutexes lives (Get g) line allowed = (refl, refl)
-  quiet_at_mutexes lives (Set g v) line allowed = (refl, refl)
-  quiet_at_mutexes lives (Lower g) line allowed = (refl, refl)
-  quiet_at_mutexes lives (Peek o) line allowed = (refl, refl)
-  quiet_at_mutexes lives (Put o v) line allowed = (refl, refl)
-  quiet_at_mutexes lives (Take o) line allowed = (refl, refl)
-  quiet_at_mutexes lives (Drop o) line allowed = (refl, refl)
-  quiet_at_mutexes lives (Hand g) line allowed = (refl, refl)
   quiet_at_mutexes lives (PollUntil g w until) line allowed = absurd (cc)
   quiet_at_mutexes lives (EndWait g) line allowed = absurd (cc)
+  quiet_at_mutexes lives _ line allowed = (refl, refl)
 
   quiet_mutex : is_lock_future h.mutexes f ≡ true → (d : Meaning) → cause_by h d ≡ None → polled_by d (Of Mutexes) f ≡ None → ends_by d (Of Mutexes) f ≡ false → QuietMutex d f
   quiet_mutex lives (OnLocks Mutexes a) allowed quiet lasts = (quiet, lasts)
@@ -378,12 +337,7 @@ module _ (h : LockHall) (i : ℕ) (f : ℕ) where
     where
       same_end : (a : CondAction) → ends_on a f ≡ true → lives_as (act_on h i a).hall Waits f ≡ false
       same_end (on.End k) is = subst (λ j. lives_as (act_on h i (on.End j)).hall Waits f ≡ false) (sym (eqb-true k f is)) (ended_wait home)
-      same_end on.Make is = absurd (cc)
-      same_end (on.Wait c g bound) is = absurd (cc)
-      same_end (on.Poll g w) is = absurd (cc)
-      same_end (on.One c) is = absurd (cc)
-      same_end (on.All c) is = absurd (cc)
-      same_end (on.Drop c) is = absurd (cc)
+      same_end _ is = absurd (cc)
 
 -- only who lives is polled
 polled_lives : (h : LockHall) (f w : ℕ) (d : Meaning) (s : Sort) → PolledAs f w d s → cause_by h d ≡ None → lives_as h s f ≡ true

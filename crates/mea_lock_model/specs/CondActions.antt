@@ -12,16 +12,8 @@ use Rattle.mea_lock_model.specs.Condvars as condvars
 use Rattle.mea_lock_model.specs.Condvars.{Condvars, CondWait, is_condvar, is_wait, waits_of, until_of}
 use Rattle.mea_lock_model.specs.Actions.{act_in, Hand, PollUntil, EndWait}
 use Rattle.mea_lock_model.specs.LockHall.{LockHall}
-
-pub data CondAction : Type 0 where
-  Make : CondAction
-  -- a wait on c takes the guard g over: the value that it waits for, if it waits for one
-  Wait : ℕ → ℕ → Option ℕ → CondAction
-  Poll : ℕ → ℕ → CondAction
-  One : ℕ → CondAction
-  All : ℕ → CondAction
-  End : ℕ → CondAction
-  Drop : ℕ → CondAction
+pub use Rattle.mea_lock_model.specs.declared.cond_action.CondAction.{CondAction}
+pub use Rattle.mea_lock_model.specs.declared.cond_action.CondAction.TheVariants.{Make, Wait, Poll, One, All, End, Drop}
 
 -- why it is refused, with the mutexes of the waits
 abbrev pub cause_with : Locks → Condvars → CondAction → Option Stop

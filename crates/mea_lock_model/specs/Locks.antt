@@ -10,6 +10,8 @@ use Rattle.mea_by_name.specs.NamedQueue as named_queue
 use Rattle.mea_family.specs.Play.{found}
 use Rattle.mea_by_name.specs.NamedQueue.{Waiting, waits}
 use Rattle.mea_by_name.specs.LackingQueue.{Lacking, who, lack_for, rewoken, leaving, woken_by}
+pub use Rattle.mea_lock_model.specs.declared.until.Until.{Until}
+pub use Rattle.mea_lock_model.specs.declared.until.Until.TheVariants.{Held, Reached, Never}
 
 -- a lock: its value, how many permits it has, how many of them are free, who waits for permits, and whether it
 -- is named. To read takes one permit, and to write takes all. A mutex has one, and is only written
@@ -163,12 +165,6 @@ poll h i f w x r =
     else becomes_guard h i f x (taken_from r (size r x.writes))
 
 -- ---- the waits on condition variables. Each has a future of its mutex, which has the lock before the first poll
-
--- when a wait that has the lock is ready: at once, where the value is at least this, or never
-pub data Until : Type 0 where
-  Held : Until
-  Reached : ℕ → Until
-  Never : Until
 
 -- whether it goes on waiting at a value
 abbrev pub goes_on : Until → ℕ → Bool

@@ -33,7 +33,9 @@ use Rattle.mea_meet_core.specs.declared.barrier_wait.BarrierWait.{BarrierWait as
 use Rattle.mea_meet_core.specs.declared.barrier_wait.BarrierWait.TheVariants.{New, Arrived, Done}
 use Rattle.mea_meet_model.specs.Barriers as model
 use Rattle.mea_meet_model.specs.Barriers.{Barriers, Barrier, no_barriers, is_barrier, is_wait, waits_of, registered, leads, has_completed}
-use Rattle.mea_meet_model.specs.BarrierActions.{BarrierAction, Make, Begin, Poll as PollIt, End, Drop, cause_at, act_at}
+use Rattle.mea_meet_model.specs.declared.barrier_action.BarrierAction.{BarrierAction}
+use Rattle.mea_meet_model.specs.declared.barrier_action.BarrierAction.TheVariants.{Make, Begin, Poll as PollIt, End, Drop}
+use Rattle.mea_meet_model.specs.BarrierActions.{cause_at, act_at}
 use Rattle.mea_meet_model.specs.Valid.{HasBarriers, IsBarrier}
 use Rattle.mea_meet_model.proofs.BarriersKept.{barriers_empty, keeps}
 use Rattle.mea_by_name.proofs.Halls.{no_thing}
@@ -95,9 +97,6 @@ module _ (e : BarrierEntry) (ws : Names BarrierWaitEntry) (n i : ℕ) (a : AreKe
         counted = let all = a.counted in let less = len-gone ws f x there in let some = len-some ws f x there in omega (arith, all, less, some);
         few = let few = a.few in omega (arith, few, later);
       }
-
-      drained : SetLinked (record { wakers = []; drains = e.core.waiting.drains + 1 }) (slots_of (remove ws f)) (i + 1)
-      drained = drained_links e.core.waiting (slots_of (remove ws f)) (i + 1) gone
 
       slot_known : get (slots_of ws) f ≡ Some (slot_of x.wait)
       slot_known = seen-at (λ (x : BarrierWaitEntry). slot_of x.wait) ws f x there
@@ -207,17 +206,11 @@ module _ {old : Part Barriers} {i : ℕ} (s : Site old i) where
   known_wait : (f : ℕ) (p : Option BarrierWaitEntry) → get s.ws f ≡ p → is_wait old.hall f ≡ is_some p
   known_wait f p is = sym (is_wait_is s.bs s.ws s.next s.view f) ∙ ap is_some is
 
-  pub barrier_unknown : (b : ℕ) → get s.bs b ≡ None → unknown_unless (is_barrier old.hall b) ≡ Some stops.Unknown
-  barrier_unknown b none = ap unknown_unless (known_barrier b None none)
+  pub barrier_told : (b : ℕ) (p : Option BarrierEntry) → get s.bs b ≡ p → unknown_unless (is_barrier old.hall b) ≡ unknown_unless (is_some p)
+  barrier_told b p is = ap unknown_unless (known_barrier b p is)
 
-  pub wait_unknown : (f : ℕ) → get s.ws f ≡ None → unknown_unless (is_wait old.hall f) ≡ Some stops.Unknown
-  wait_unknown f none = ap unknown_unless (known_wait f None none)
-
-  pub barrier_known : (b : ℕ) (e : BarrierEntry) → get s.bs b ≡ Some e → unknown_unless (is_barrier old.hall b) ≡ None
-  barrier_known b e there = ap unknown_unless (known_barrier b (Some e) there)
-
-  pub wait_known : (f : ℕ) (x : BarrierWaitEntry) → get s.ws f ≡ Some x → unknown_unless (is_wait old.hall f) ≡ None
-  wait_known f x future = ap unknown_unless (known_wait f (Some x) future)
+  pub wait_told : (f : ℕ) (p : Option BarrierWaitEntry) → get s.ws f ≡ p → unknown_unless (is_wait old.hall f) ≡ unknown_unless (is_some p)
+  wait_told f p is = ap unknown_unless (known_wait f p is)
 
   -- what was lent or sought, and did not change
   untold : (bs' : Names BarrierEntry) (ws' : Names BarrierWaitEntry) → bs' ≡ s.bs → ws' ≡ s.ws → AreKeptBarriers bs' ws' s.next × (part_of bs' ws' s.next ≡ old)
@@ -273,7 +266,7 @@ module _ {old : Part Barriers} {i : ℕ} (s : Site old i) where
         → Rests (Begin b) answers.Made (insert s.bs b (record e { waits = e.waits + 1 })) ws'
     begun w new ws' put =
         let now = kept_now (record e { waits = e.waits + 1 }) in
-        rw put (rests_as (Begin b) (model.begin here i b) refl (barrier_known b e there) answers.Made refl (insert s.bs b (record e { waits = e.waits + 1 })) (insert s.ws i (record { barrier = b; wait = w }))
+        rw put (rests_as (Begin b) (model.begin here i b) refl (barrier_told b (Some e) there) answers.Made refl (insert s.bs b (record e { waits = e.waits + 1 })) (insert s.ws i (record { barrier = b; wait = w }))
         (seen-alike barrier_seen s.bs b e (record e { waits = e.waits + 1 }) there refl)
         (seen-insert wait_seen s.ws i (record { barrier = b; wait = w }) ∙ ap (insert (seen wait_seen s.ws) i) (λ j. record { barrier = b; round = round_of (new j) }))
         (each_turned (insert s.ws i (record { barrier = b; wait = w })) (Comes i (record { barrier = b; wait = w }) (omega arith) refl (λ z is. absurd (let none = new_wait in cc))) (record e { waits = e.waits + 1 })
@@ -315,7 +308,7 @@ module _ {old : Part Barriers} {i : ℕ} (s : Site old i) where
       pub ended : (ws' : Names BarrierWaitEntry) → ws' ≡ remove s.ws f → Rests (End f) answers.Done (insert s.bs b (record e { waits = e.waits - 1 })) ws'
       ended ws' gone_now =
           let now = kept_now (record e { waits = e.waits - 1 }) in
-          rw gone_now (rests_as (End f) (model.end here f) refl (wait_known f x future) answers.Done refl (insert s.bs b (record e { waits = e.waits - 1 })) (remove s.ws f)
+          rw gone_now (rests_as (End f) (model.end here f) refl (wait_told f (Some x) future) answers.Done refl (insert s.bs b (record e { waits = e.waits - 1 })) (remove s.ws f)
           (seen-alike barrier_seen s.bs b e (record e { waits = e.waits - 1 }) there refl) (seen-remove wait_seen s.ws f)
           (each_turned (remove s.ws f) goes (record e { waits = e.waits - 1 })
           (rw (own-gone of_barrier b s.ws f) (leaves e (own of_barrier b s.ws) s.next i its s.later f x own_future e.core (gone e (own of_barrier b s.ws) s.next i its s.later f x own_future) its_quiet)))
@@ -342,7 +335,7 @@ module _ {old : Part Barriers} {i : ℕ} (s : Site old i) where
             let counted = t.counted in
             let none : t.woken ≡ [] = ap (λ (c : cores.Barrier NamedWaker). c.wakes) core ∙ calm in
             let names : set_names c.waiting ≡ registering (set_names e.core.waiting) f w = ap set_names waiting ∙ names_now e (own of_barrier b s.ws) s.next i its s.later f x own_future w in
-            yields_as (PollIt f w) out is (wait_known f x future) answers.Pending (sym pends) (insert s.bs b d) (insert s.ws f (record x { wait = u }))
+            yields_as (PollIt f w) out is (wait_told f (Some x) future) answers.Pending (sym pends) (insert s.bs b d) (insert s.ws f (record x { wait = u }))
             (seen-insert barrier_seen s.bs b d ∙ ap (insert (seen barrier_seen s.bs) b) (ap core_seen core_is ∙ (λ j. record (core_seen c) { waiting = names j })) ∙ ap (λ (h : Barriers). h.barriers) (sym hall))
             (seen-insert wait_seen s.ws f (record x { wait = u }) ∙ ap (insert (seen wait_seen s.ws) f) (λ j. record { barrier = mine j; round = round_of (wait j) }) ∙ ap (λ (h : Barriers). h.waits) (sym hall))
             (each_turned (insert s.ws f (record x { wait = u })) (Comes f (record x { wait = u }) (let low = (s.kept.valid.waits.at f (wait_seen x) (seen-at wait_seen s.ws f x future)).0 in let later = s.later in omega (arith, low, later)) mine (λ z is. ap (λ (x : BarrierWaitEntry). x.barrier) (inside (sym is ∙ future)) ∙ mine)) d
@@ -391,7 +384,7 @@ module _ {old : Part Barriers} {i : ℕ} (s : Site old i) where
             let d_is : record d { waits = d.waits - 1 } ≡ record { core = record c { wakes = [] }; waits = e.waits - 1 } = λ j. record { core = core_is j; waits = t.waits j - 1 } in
             let now = kept_now (record d { waits = d.waits - 1 }) in
             let counted = t.counted in
-            yields_as (PollIt f w) out is (wait_known f x future) answer replied (insert s.bs b (record d { waits = d.waits - 1 })) (remove s.ws f)
+            yields_as (PollIt f w) out is (wait_told f (Some x) future) answer replied (insert s.bs b (record d { waits = d.waits - 1 })) (remove s.ws f)
             (seen-insert barrier_seen s.bs b (record d { waits = d.waits - 1 }) ∙ ap (insert (seen barrier_seen s.bs) b) (ap core_seen core_is) ∙ sym barriers) (seen-remove wait_seen s.ws f ∙ sym waits)
             (each_turned (remove s.ws f) goes (record d { waits = d.waits - 1 })
             (rw d_is (subst (λ m. AreKept (record { core = record c { wakes = [] }; waits = e.waits - 1 }) m (i + 1)) (sym (own-gone of_barrier b s.ws f)) (leaves e (own of_barrier b s.ws) s.next i its s.later f x own_future (record c { wakes = [] }) (subst (λ m. SetLinked c.waiting (slots_of m) (i + 1)) (own-gone of_barrier b s.ws f) linked) refl))))

@@ -1,5 +1,5 @@
 -- what each call of the part of points that count makes of them
-use Rattle.std.proofs.Common.{◌≡◌, ◌≢◌, ℕ, ◌+◌, ◌-◌, ◌<◌, ◌≤◌, ◌^◌, ◌==◌, ◌&&◌, ◌++◌, Bool, true, false, cond, [], nat_lt, Option, Some, None, IsSome, unwrap_or, if◌then◌else◌, refl, ap, sym, subst, ◌∙◌, arith, append-nil}
+use Rattle.std.proofs.Common.{◌≡◌, ◌≢◌, ℕ, ◌+◌, ◌-◌, ◌<◌, ◌≤◌, ◌^◌, ◌==◌, ◌&&◌, ◌++◌, Bool, true, false, cond, [], nat_lt, Option, Some, None, IsSome, is_some, unwrap_or, if◌then◌else◌, refl, ap, sym, subst, ◌∙◌, arith, append-nil}
 use Rattle.std.specs.Prelude.{IfSome, Result, Ok}
 use Rattle.std.specs.Option.{option_map}
 use Rattle.std.specs.FinMap.{get, insert, remove, len}
@@ -38,6 +38,7 @@ use Rattle.mea_meet.specs.CountEntries.{KeptPoint, Settles, Polled, is_full}
 use Rattle.mea_meet.specs.CountParts.{point_seen, holder_seen, wait_seen, counts_seen, of_holder, of_wait, borrowers_in, AreKept, AreKeptCounts, given_back_at, given_back}
 use Rattle.mea_family.specs.Acts.{Acts, ActsQuietly}
 use Rattle.mea_meet.specs.Halls.{CountActs, CountActsQuietly}
+use Rattle.mea_meet_model.proofs.Registrations.{at_most_one}
 use Rattle.mea_meet.proofs.CountSeeing as seeing
 use Rattle.mea_meet.proofs.CountSeeing.{kept_in}
 use Rattle.mea_meet.proofs.OneCount as one
@@ -46,10 +47,6 @@ use Rattle.mea_meet.proofs.CountSites.{Each, Site, part_of, in_view, holder_is, 
 
 abbrev no_point_there : Point
 no_point_there = record { signal = record { number = 0; waiting = [] }; members = record { number = 0; waiting = [] } }
-
-small_plus : (b : Bool) → cond b 1 0 ≤ 1
-small_plus true = omega arith
-small_plus false = omega arith
 
 -- a count that is full for one more
 full_is : (b : Bool) (n : ℕ) → (if b && (n == 4294967295) then Some stops.Overflow else None) ≡ (if b then overflow_at n else None)
@@ -97,23 +94,14 @@ module _ {old : Part Counts} {i : ℕ} (s : Site old i) where
       yields_by before after woken waiting = let it = yields_as s (λ h. act_in h i a) out is valid answer replied ps' ss' hs' ws' points senders holders waits each before after woken waiting in (it.0, (allowed, it.1))
 
   -- ---- why it is refused, or is not
-  pub holder_known : (k : ℕ) (x : HolderEntry) → get s.hs k ≡ Some x → unknown_unless (is_holder old.hall k) ≡ None
-  holder_known k x holder = ap unknown_unless (known_holder s k (Some x) holder)
+  pub holder_told : (k : ℕ) (p : Option HolderEntry) → get s.hs k ≡ p → unknown_unless (is_holder old.hall k) ≡ unknown_unless (is_some p)
+  holder_told k p is = ap unknown_unless (known_holder s k p is)
 
-  pub wait_known : (f : ℕ) (y : WaitEntry) → get s.ws f ≡ Some y → unknown_unless (is_wait old.hall f) ≡ None
-  wait_known f y future = ap unknown_unless (known_wait s f (Some y) future)
+  pub wait_told : (f : ℕ) (p : Option WaitEntry) → get s.ws f ≡ p → unknown_unless (is_wait old.hall f) ≡ unknown_unless (is_some p)
+  wait_told f p is = ap unknown_unless (known_wait s f p is)
 
-  pub sender_known : (k o : ℕ) → get s.ss k ≡ Some o → unknown_unless (is_sender old.hall k) ≡ None
-  sender_known k o sender = ap unknown_unless (known_sender s k (Some o) sender)
-
-  pub holder_unknown : (k : ℕ) → get s.hs k ≡ None → unknown_unless (is_holder old.hall k) ≡ Some stops.Unknown
-  holder_unknown k none = ap unknown_unless (known_holder s k None none)
-
-  pub wait_unknown : (f : ℕ) → get s.ws f ≡ None → unknown_unless (is_wait old.hall f) ≡ Some stops.Unknown
-  wait_unknown f none = ap unknown_unless (known_wait s f None none)
-
-  pub sender_unknown : (k : ℕ) → get s.ss k ≡ None → unknown_unless (is_sender old.hall k) ≡ Some stops.Unknown
-  sender_unknown k none = ap unknown_unless (known_sender s k None none)
+  pub sender_told : (k : ℕ) (p : Option ℕ) → get s.ss k ≡ p → unknown_unless (is_sender old.hall k) ≡ unknown_unless (is_some p)
+  sender_told k p is = ap unknown_unless (known_sender s k p is)
 
   -- what was lent and did not change
   pub untold : (ps' : Names KeptPoint) (ss' : Names ℕ) (hs' : Names HolderEntry) (ws' : Names WaitEntry) → ps' ≡ s.ps → ss' ≡ s.ss → hs' ≡ s.hs → ws' ≡ s.ws → AreKeptCounts ps' ss' hs' ws' s.next × (part_of ps' ss' hs' ws' s.next ≡ old)
@@ -153,13 +141,13 @@ module _ {old : Part Counts} {i : ℕ} (s : Site old i) where
 
   module _ (k : ℕ) (x : HolderEntry) (e : KeptPoint) (holder : get s.hs k ≡ Some x) (there : get s.ps x.point ≡ Some e) where
     pub numbered : (n : ℕ) → n ≡ e.point.signal.number → Rests (actions.Number k) (answers.Count n) s.ps s.ss s.hs s.ws
-    numbered n is = told (actions.Number k) (model.number here (point_seen e)) (by_holder k x e holder there (λ x. model.number here)) (holder_known k x holder) refl refl (answers.Count n) (ap (λ n. answers.Count n) is)
+    numbered n is = told (actions.Number k) (model.number here (point_seen e)) (by_holder k x e holder there (λ x. model.number here)) (holder_told k (Some x) holder) refl refl (answers.Count n) (ap (λ n. answers.Count n) is)
 
     pub tried : (n : ℕ) → n ≡ e.point.signal.number → (answer : Answer) → answer ≡ cond (n == 0) answers.Accepted (answers.Left n) → Rests (actions.Try k) answer s.ps s.ss s.hs s.ws
-    tried n is answer replied = told (actions.Try k) (model.try here (point_seen e)) (by_holder k x e holder there (λ x. model.try here)) (holder_known k x holder) refl refl answer (replied ∙ ap (λ n. cond (n == 0) answers.Accepted (answers.Left n)) is)
+    tried n is answer replied = told (actions.Try k) (model.try here (point_seen e)) (by_holder k x e holder there (λ x. model.try here)) (holder_told k (Some x) holder) refl refl answer (replied ∙ ap (λ n. cond (n == 0) answers.Accepted (answers.Left n)) is)
 
     pub asked : (b : Bool) → b ≡ (e.point.signal.number == 0) → (answer : Answer) → answer ≡ cond b answers.Yes answers.No → Rests (actions.Now k) answer s.ps s.ss s.hs s.ws
-    asked b is answer replied = told (actions.Now k) (model.now here (point_seen e)) (by_holder k x e holder there (λ x. model.now here)) (holder_known k x holder) refl refl answer (replied ∙ ap (λ b. cond b answers.Yes answers.No) is)
+    asked b is answer replied = told (actions.Now k) (model.now here (point_seen e)) (by_holder k x e holder there (λ x. model.now here)) (holder_told k (Some x) holder) refl refl answer (replied ∙ ap (λ b. cond b answers.Yes answers.No) is)
 
   -- ---- at a point
   module _ (o : ℕ) (e : KeptPoint) (there : get s.ps o ≡ Some e) where
@@ -269,7 +257,7 @@ module _ {old : Part Counts} {i : ℕ} (s : Site old i) where
     pub copied : (k : ℕ) → get s.ss k ≡ Some o → (d : KeptPoint) → d ≡ record e { things = e.things + 1 } → (ss' : Names ℕ) → ss' ≡ insert s.ss i o → Rests (CopySender k) answers.Made (insert s.ps o d) ss' s.hs s.ws
     copied k sender d more ss' put =
         let now = kept_now s o e there (record e { things = e.things + 1 }) in
-        rw (more, put) (rests_by (CopySender k) (model.copy_sender here i o) (found_is (get s.ss k) here (model.copy_sender here i) o sender) (sender_known k o sender) tt answers.Made refl
+        rw (more, put) (rests_by (CopySender k) (model.copy_sender here i o) (found_is (get s.ss k) here (model.copy_sender here i) o sender) (sender_told k (Some o) sender) tt answers.Made refl
         (insert s.ps o (record e { things = e.things + 1 })) (insert s.ss i o) s.hs s.ws (seen-alike point_seen s.ps o e (record e { things = e.things + 1 }) there refl) refl refl refl
         (each_turned s o e there (insert s.ss i o) s.hs s.ws (Comes i o (omega arith) refl (λ y is. absurd (let none = new_sender s in cc))) Stays Stays (record e { things = e.things + 1 })
         (rw (own-put of_itself o s.ss i o refl) (one.sends e (own of_wait o s.ws) (own of_holder o s.hs) (own of_itself o s.ss) s.next i kept s.later o (own-none of_itself o s.ss i (new_sender s)))))
@@ -284,7 +272,7 @@ module _ {old : Part Counts} {i : ℕ} (s : Site old i) where
           let good : AreKept (record e { things = e.things - 1 }) (own of_wait o s.ws) (own of_holder o s.hs) (own of_itself o (remove s.ss k)) (i + 1) = rw (own-gone of_itself o s.ss k) (one.sends_less e (own of_wait o s.ws) (own of_holder o s.hs) (own of_itself o s.ss) s.next i kept s.later k o (own-at of_itself o s.ss k o sender refl)) in
           let goes : Moves of_itself o i s.ss (remove s.ss k) = Goes k (λ j is. inside (sym is ∙ sender)) in
           let counted = kept_tidied s o e there (remove s.ss k) s.hs s.ws goes Stays Stays (record e { things = e.things - 1 }) over is_it good before.registered after.registered released in
-          yields_by (EndSender k) (model.end_sender here k o (point_seen e)) (by_sender k o e sender there (model.end_sender here k)) (sender_known k o sender) tt answers.Done refl
+          yields_by (EndSender k) (model.end_sender here k o (point_seen e)) (by_sender k o e sender there (model.end_sender here k)) (sender_told k (Some o) sender) tt answers.Done refl
           (if over then remove (insert s.ps o (record e { things = e.things - 1 })) o else insert s.ps o (record e { things = e.things - 1 })) (remove s.ss k) s.hs s.ws
           (seen_tidied s o e there (remove s.ss k) s.hs s.ws goes Stays Stays (record e { things = e.things - 1 }) over is_it good (record here { senders = remove s.ss k }) (point_seen e) refl refl refl refl refl) refl refl refl
           (each_tidied s o e there (remove s.ss k) s.hs s.ws goes Stays Stays (record e { things = e.things - 1 }) over is_it good) before after (woken ∙ sym (append-nil before.wakers)) (omega (arith, counted))
@@ -334,7 +322,7 @@ module _ {old : Part Counts} {i : ℕ} (s : Site old i) where
           ended hs holders alike many back =
               let good : AreKept (record e { things = e.things - 1 }) (own of_wait o (remove s.ws f)) (own of_holder o hs) (own of_itself o s.ss) (i + 1) = rw (own-gone of_wait o s.ws f) (one.leaves e (own of_wait o s.ws) (own of_holder o s.hs) (own of_itself o s.ss) s.next i kept s.later f y (own-at of_wait o s.ws f y future mine) (own of_holder o hs) many back) in
               let counted = kept_tidied s o e there s.ss hs (remove s.ws f) Stays holders goes (record e { things = e.things - 1 }) over is_it good before.registered after.registered released in
-              yields_by (EndWait f) (model.end_wait here f (wait_seen y) (point_seen e)) is (wait_known f y future) tt answers.Done refl
+              yields_by (EndWait f) (model.end_wait here f (wait_seen y) (point_seen e)) is (wait_told f (Some y) future) tt answers.Done refl
               (if over then remove (insert s.ps o (record e { things = e.things - 1 })) o else insert s.ps o (record e { things = e.things - 1 })) s.ss hs (remove s.ws f)
               (seen_tidied s o e there s.ss hs (remove s.ws f) Stays holders goes (record e { things = e.things - 1 }) over is_it good (record here { waits = remove (seen wait_seen s.ws) f }) (point_seen e) refl refl (sym alike) (sym (seen-remove wait_seen s.ws f)) refl
               ∙ (λ j. (tidied (record here { waits = remove (seen wait_seen s.ws) f }) (sym mine j) (point_seen e)).points)) refl alike (seen-remove wait_seen s.ws f)
@@ -412,7 +400,7 @@ module _ {old : Part Counts} {i : ℕ} (s : Site old i) where
             let now = kept_now s y.point e there d in
             let counted = polled.counted in
             let is = by_wait f y e future there (model.poll here f w) ∙ if_false ((model.count_at (model.end_of (awaits_of y.wait)) (point_seen e)).number == 0) _ _ (ap (λ n. n == 0) seen_number ∙ test) in
-            yields_by (actions.Poll f w) (model.waits_on here f w (wait_seen y) (point_seen e)) is (wait_known f y future) tt answers.Pending refl
+            yields_by (actions.Poll f w) (model.waits_on here f w (wait_seen y) (point_seen e)) is (wait_told f (Some y) future) tt answers.Pending refl
             (insert s.ps y.point d) s.ss s.hs (insert s.ws f (record y { wait = x' }))
             (seen-insert point_seen s.ps y.point d ∙ ap (insert (seen point_seen s.ps) y.point) (ap point_seen it.1 ∙ seeing.core_registered e.point (end_of y.wait) (slot_of y.wait) (record { future = f; waker = w }) f w
             (one.names_now e (own of_wait y.point s.ws) (own of_holder y.point s.hs) (own of_itself y.point s.ss) s.next i (its s y.point e there) s.later f y own_future w)
@@ -452,18 +440,18 @@ module _ {old : Part Counts} {i : ℕ} (s : Site old i) where
   -- ---- the calls, as they are made
   pub arrived_by : (k : ℕ) (x : HolderEntry) (e : KeptPoint) → get s.hs k ≡ Some x → get s.ps x.point ≡ Some e → (m : ℕ) (d : KeptPoint) (before after : Waking ℕ) → Settles e (arrived e.point m) d before after
       → Yields (actions.Arrive k m) answers.Done (insert s.ps x.point d) s.ss s.hs s.ws before after
-  arrived_by k x e holder there m d before after settles = arrives x.point e there (actions.Arrive k m) m (by_holder k x e holder there (λ x. model.arrive here m x.point)) (holder_known k x holder) tt d before after settles
+  arrived_by k x e holder there m d before after settles = arrives x.point e there (actions.Arrive k m) m (by_holder k x e holder there (λ x. model.arrive here m x.point)) (holder_told k (Some x) holder) tt d before after settles
 
   pub sent_by : (k o : ℕ) (e : KeptPoint) → get s.ss k ≡ Some o → get s.ps o ≡ Some e → (d : KeptPoint) (before after : Waking ℕ) → Settles e (arrived e.point 1) d before after
       → Yields (actions.Send k) answers.Done (insert s.ps o d) s.ss s.hs s.ws before after
-  sent_by k o e sender there d before after settles = arrives o e there (actions.Send k) 1 (by_sender k o e sender there (model.arrive here 1)) (sender_known k o sender) tt d before after settles
+  sent_by k o e sender there d before after settles = arrives o e there (actions.Send k) 1 (by_sender k o e sender there (model.arrive here 1)) (sender_told k (Some o) sender) tt d before after settles
 
   -- a future on the signal
   pub begun : (k : ℕ) (x : HolderEntry) (e : KeptPoint) → get s.hs k ≡ Some x → get s.ps x.point ≡ Some e → (plain : Bool) (y : WaitEntry) → y.point ≡ x.point → slot_of y.wait ≡ None
       → awaits_of y.wait ≡ model.Signal (cond plain (Some k) None) → (one : ℕ) → one ≡ cond plain 1 0 → (d : KeptPoint) → d ≡ record e { things = e.things + 1 } → (ws' : Names WaitEntry) → ws' ≡ insert s.ws i y
       → Rests (Begin k plain) answers.Made (insert s.ps x.point d) s.ss (insert s.hs k (record x { borrowers = x.borrowers + one })) ws'
   begun k x e holder there plain y mine new awaits_it one_ is d more ws' put = rw (more, put)
-      (begins x.point e there y mine new (Begin k plain) (model.begin here i k plain (holder_seen x)) (found_is _ _ _ (holder_seen x) (seen-at holder_seen s.hs k x holder)) (holder_known k x holder) tt
+      (begins x.point e there y mine new (Begin k plain) (model.begin here i k plain (holder_seen x)) (found_is _ _ _ (holder_seen x) (seen-at holder_seen s.hs k x holder)) (holder_told k (Some x) holder) tt
       (λ j. quietly (model.with_wait here i x.point (sym awaits_it j)) answers.Made) (insert s.hs k x')
       (Comes k x' (let low = (s.kept.valid.holders.at k (holder_seen x) (seen-at holder_seen s.hs k x holder)).0 in let later = s.later in omega (arith, low, later)) refl (λ w has. ap (λ (x : HolderEntry). x.point) (inside (sym has ∙ holder))))
       (seen-alike holder_seen s.hs k x x' holder refl)
@@ -490,27 +478,27 @@ module _ {old : Part Counts} {i : ℕ} (s : Site old i) where
       let few = count-least (λ (y : WaitEntry). borrows (awaits_of y.wait) k) (own of_wait z.point s.ws) in
       let things = (kept z.point point.0 point.1).things in
       let bound = its_few s z.point point.0 point.1 fits in
-      let less = small_plus plain in
+      let less = at_most_one plain in
       omega (arith, all, few, things, bound, less, is)
 
   -- a further future on the end of the members
   pub copied_wait : (f : ℕ) (x : WaitEntry) (e : KeptPoint) → get s.ws f ≡ Some x → get s.ps x.point ≡ Some e → (y : WaitEntry) → y.point ≡ x.point → slot_of y.wait ≡ None → awaits_of y.wait ≡ model.Members
       → (d : KeptPoint) → d ≡ record e { things = e.things + 1 } → (ws' : Names WaitEntry) → ws' ≡ insert s.ws i y → Rests (Copy f) answers.Made (insert s.ps x.point d) s.ss s.hs ws'
   copied_wait f x e future there y mine new awaits_it d more ws' put = rw (more, put)
-      (begins x.point e there y mine new (Copy f) (model.copy here i (wait_seen x)) (found_is _ _ _ (wait_seen x) (seen-at wait_seen s.ws f x future)) (wait_known f x future) tt
+      (begins x.point e there y mine new (Copy f) (model.copy here i (wait_seen x)) (found_is _ _ _ (wait_seen x) (seen-at wait_seen s.ws f x future)) (wait_told f (Some x) future) tt
       (λ j. quietly (model.with_wait here i x.point (sym awaits_it j)) answers.Made) s.hs Stays refl refl
       (λ k z is. let all = (kept x.point e there).borrowers k z is in let nothing : ◌≡◌ {A = ℕ} (cond (borrows (awaits_of y.wait) k) 1 0) 0 = ap (λ a. cond (borrows a k) 1 0) awaits_it in omega (arith, all, nothing)))
 
   -- a holder, or a sender, becomes one
   pub gone_over : (k : ℕ) (x : HolderEntry) (e : KeptPoint) → BorrowNothing old.hall → get s.hs k ≡ Some x → get s.ps x.point ≡ Some e → (y : WaitEntry) → y.point ≡ x.point → slot_of y.wait ≡ None → awaits_of y.wait ≡ model.Members
       → (d : KeptPoint) (before after : Waking ℕ) → Settles e (parted e.point x.counted) d before after → (ws' : Names WaitEntry) → ws' ≡ insert s.ws i y → (hs' : Names HolderEntry) → hs' ≡ remove s.hs k → Yields (Into k) answers.Made (insert s.ps x.point d) s.ss hs' ws' before after
-  gone_over k x e free holder there y mine new awaits_it d before after settles ws' put hs' gone = rw (put, gone) (goes_over x.point e there y mine new (λ k. ap (λ a. borrows a k) awaits_it) k x holder refl (holder_known k x holder) (in_view s BorrowNothing free) awaits_it
+  gone_over k x e free holder there y mine new awaits_it d before after settles ws' put hs' gone = rw (put, gone) (goes_over x.point e there y mine new (λ k. ap (λ a. borrows a k) awaits_it) k x holder refl (holder_told k (Some x) holder) (in_view s BorrowNothing free) awaits_it
       (by_holder k x e holder there (model.into here i k)) d before after settles)
 
   pub awaited : (k o : ℕ) → get s.ss k ≡ Some o → (y : WaitEntry) → y.point ≡ o → slot_of y.wait ≡ None → awaits_of y.wait ≡ model.Members → (ws' : Names WaitEntry) → ws' ≡ insert s.ws i y → (ss' : Names ℕ) → ss' ≡ remove s.ss k
       → Rests (Await k) answers.Made s.ps ss' s.hs ws'
   awaited k o sender y mine new awaits_it ws' put ss' gone = let e = value_in (get s.ps o) (senders_point s k o sender) in
-      rw (put, gone) (awaits o e.0 e.1 y mine new (λ k. ap (λ a. borrows a k) awaits_it) k sender (sender_known k o sender) awaits_it)
+      rw (put, gone) (awaits o e.0 e.1 y mine new (λ k. ap (λ a. borrows a k) awaits_it) k sender (sender_told k (Some o) sender) awaits_it)
 
   -- ---- what the calls ask
   module _ (k : ℕ) (x : HolderEntry) (e : KeptPoint) (holder : get s.hs k ≡ Some x) (there : get s.ps x.point ≡ Some e) where
@@ -669,7 +657,7 @@ module _ {old : Part Counts} {i : ℕ} (s : Site old i) where
     readied b borrowed hs' given g is over test after woken released ws' gone =
         let left = wait_left f y e future there b (ready_lent b borrowed) hs' given g (is ∙ ap (λ (d : KeptPoint). record d { things = d.things - 1 }) (same).0) over test before after (woken ∙ ap (λ (w : Waking ℕ). w.wakers) (same).2) (released ∙ ap (λ (w : Waking ℕ). w.registered) (same).2)
         ws' (gone ∙ put_gone s.ws f (record y { wait = x' })) in
-        (left.0, (wait_known f y future, readies f y e future there w (same).3 answers.Done _ before after left.1.1))
+        (left.0, (wait_told f (Some y) future, readies f y e future there w (same).3 answers.Done _ before after left.1.1))
 
   -- what a future borrows is there, and counted
   pub lender_some : (f : ℕ) (y : WaitEntry) → get s.ws f ≡ Some y → (b : Option ℕ) → b ≡ borrowed_of y.wait → IfSome b (λ k. IfSome (get s.hs k) (λ x. 1 ≤ x.borrowers) × IsSome (get s.hs k))

@@ -5,12 +5,12 @@ use Rattle.std.specs.Ordering.{nat_cmp}
 use Rattle.mea_base.proofs.Maps.{get-there, is_there}
 use Rattle.mea_family.specs.Play.{Part}
 use Rattle.mea_family.specs.declared.answer.Answer.TheVariants as answers
-use Rattle.mea_by_name.specs.ByName.{Names, seen, own}
+use Rattle.mea_by_name.specs.ByName.{Names, own}
 use Rattle.mea_by_name.proofs.Own.{Moves, Stays, Comes, seen-insert, own-put, put_gone, gone_none, len-new}
 use Rattle.mea_meet_model.specs.Counts as model
 use Rattle.mea_meet_model.specs.Counts.{Counts, New, of_itself}
 use Rattle.mea_meet_model.specs.CountActions.{Make}
-use Rattle.mea_meet_model.specs.Hall.{Kind, Latches, Groups, Shutdowns}
+use Rattle.mea_meet_model.specs.Hall.{Kind, Latches}
 use Rattle.mea_meet.specs.declared.holder_entry.HolderEntry.{HolderEntry}
 use Rattle.mea_meet.specs.Actions.{IsNewOf}
 use Rattle.mea_meet.specs.CountCores.{NamedPoint, point_from}
@@ -23,8 +23,7 @@ use Rattle.mea_meet.proofs.CountCalls.{Rests, rests_by}
 -- its members are its first holder, where that is counted
 pub fair : (k : Kind) (new : New) → IsNewOf k new → new.members ≡ cond new.counted 1 0
 fair Latches new is = ap (λ (new : New). new.members) is ∙ sym (ap (λ (new : New). cond new.counted 1 0) is)
-fair Groups new is = ap (λ (new : New). new.members) is ∙ sym (ap (λ (new : New). cond new.counted 1 0) is)
-fair Shutdowns new is = ap (λ (new : New). new.members) is ∙ sym (ap (λ (new : New). cond new.counted 1 0) is)
+fair _ new is = ap (λ (new : New). new.members) is ∙ sym (ap (λ (new : New). cond new.counted 1 0) is)
 
 -- a sender that was put there, if one was, is taken away again
 pub put_there : (m : Names ℕ) (k : ℕ) (b : Bool) → b ≡ true → IsSome (get (if b then insert m k k else m) k)

@@ -21,25 +21,13 @@ use Rattle.mea_meet.specs.CountParts.{count_seen, core_seen, point_seen}
 -- ---- a count
 module _ (c : cores.Count NamedWaker) (n : ℕ) where
   seen_decreased : count_seen (cores.decreased c n) ≡ decreased (count_seen c) n
-  seen_decreased = at (cores.ends c n)
-    where
-      at : (b : Bool) → count_seen (record { number = c.number - n; waiting = if b then sets.drained c.waiting else c.waiting }) ≡ record { number = c.number - n; waiting = if b then [] else set_names c.waiting }
-      at true = refl
-      at false = refl
+  seen_decreased = elim (cores.ends c n) as (λ b. count_seen (record { number = c.number - n; waiting = if b then sets.drained c.waiting else c.waiting }) ≡ record { number = c.number - n; waiting = if b then [] else set_names c.waiting }) [ true ↦ refl | false ↦ refl ]
 
   woken_decreased : map (λ (k : NamedWaker). k.waker) (cores.woken_by c n) ≡ woken_by (count_seen c) n
-  woken_decreased = at (cores.ends c n)
-    where
-      at : (b : Bool) → map (λ (k : NamedWaker). k.waker) (if b then c.waiting.wakers else []) ≡ (if b then wakers (set_names c.waiting) else [])
-      at true = sym (wakers-names c.waiting.wakers)
-      at false = refl
+  woken_decreased = elim (cores.ends c n) as (λ b. map (λ (k : NamedWaker). k.waker) (if b then c.waiting.wakers else []) ≡ (if b then wakers (set_names c.waiting) else [])) [ true ↦ sym (wakers-names c.waiting.wakers) | false ↦ refl ]
 
   kept_decreased : length (cores.decreased c n).waiting.wakers + length (cores.woken_by c n) ≡ length c.waiting.wakers
-  kept_decreased = at (cores.ends c n)
-    where
-      at : (b : Bool) → length (if b then sets.drained c.waiting else c.waiting).wakers + length (if b then c.waiting.wakers else []) ≡ length c.waiting.wakers
-      at true = omega arith
-      at false = omega arith
+  kept_decreased = elim (cores.ends c n) as (λ b. length (if b then sets.drained c.waiting else c.waiting).wakers + length (if b then c.waiting.wakers else []) ≡ length c.waiting.wakers) [ true ↦ omega arith | false ↦ omega arith ]
 
 -- ---- a point
 module _ (p : NamedPoint) where

@@ -29,11 +29,7 @@ pub fresh_linked : (n : ℕ) → SetLinked (record { wakers = []; drains = 0 }) 
 fresh_linked n = record { each = λ f slot there. absurd (nothing_at (Option Place) f slot there); below = tt }
 
 decreased_linked : (c : cores.Count NamedWaker) (m n : ℕ) (slots : Names (Option Place)) → SetLinked c.waiting slots n → SetLinked (cores.decreased c m).waiting slots n
-decreased_linked c m n slots linked = at (cores.ends c m)
-  where
-    at : (b : Bool) → SetLinked (if b then record { wakers = []; drains = c.waiting.drains + 1 } else c.waiting) slots n
-    at true = drained_links c.waiting slots n linked
-    at false = linked
+decreased_linked c m n slots linked = elim (cores.ends c m) as (λ b. SetLinked (if b then record { wakers = []; drains = c.waiting.drains + 1 } else c.waiting) slots n) [ true ↦ drained_links c.waiting slots n linked | false ↦ linked ]
 
 -- ---- places
 new_slot : (x : CountWait) → slot_of x ≡ None → (d : End) → slot_at d x ≡ None
@@ -53,11 +49,7 @@ awaits_same (waits.Members slot) s = refl
 -- ---- borrowers
 pub borrows_plain : (plain : Bool) (j k : ℕ) → ◌≡◌ {A = ℕ} (cond (borrows (model.Signal (cond plain (Some j) None)) k) 1 0) (cond (j == k) (cond plain 1 0) 0)
 borrows_plain true j k = refl
-borrows_plain false j k = at (j == k)
-  where
-    at : (b : Bool) → ◌≡◌ {A = ℕ} 0 (cond b 0 0)
-    at true = refl
-    at false = refl
+borrows_plain false j k = elim (j == k) as (λ b. ◌≡◌ {A = ℕ} 0 (cond b 0 0)) [ true ↦ refl | false ↦ refl ]
 
 module _ (e : KeptPoint) (ws : Names WaitEntry) (hs : Names HolderEntry) (ss : Names ℕ) (n i : ℕ) (a : AreKept e ws hs ss n) where
   pub lasts : n ≤ i → AreKept e ws hs ss i

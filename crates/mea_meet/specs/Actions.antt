@@ -1,7 +1,6 @@
 -- what the words of the code for what a line does stand for in the model, and which kinds have which actions
 use Rattle.std.specs.Prelude.{◌≡◌, Bool, true, false}
 use Rattle.mea_family.specs.Forms.{is_plain}
-use Rattle.mea_meet_model.specs.BarrierActions as at_barriers
 use Rattle.mea_meet_model.specs.Counts.{New}
 use Rattle.mea_meet_model.specs.CountActions as model
 use Rattle.mea_meet_model.specs.CountActions.{Action}
@@ -9,21 +8,11 @@ use Rattle.mea_meet_model.specs.Hall as kinds
 use Rattle.mea_meet_model.specs.Hall.{Kind}
 use Rattle.mea_meet_model.specs.Meaning as model_meaning
 use Rattle.mea_meet_model.specs.Meaning.{OnBarriers, OnCounts, latch_from, new_group, new_shutdown}
-use Rattle.mea_meet.specs.declared.actions.BarrierAction.{BarrierAction}
-use Rattle.mea_meet.specs.declared.actions.BarrierAction.TheVariants as barriers
 use Rattle.mea_meet.specs.declared.actions.CountAction.{CountAction}
 use Rattle.mea_meet.specs.declared.actions.CountAction.TheVariants.{Make, Now, Arrive, Begin, Join, Watch, Into, EndHolder, Copy, Poll, EndWait, EndEither, CopySender, Send, Await, EndSender}
 use Rattle.mea_meet.specs.declared.meaning.Meaning.{Meaning}
 use Rattle.mea_meet.specs.declared.meaning.Meaning.TheVariants.{Barriers, Latches, Numbers, Tries, Groups, Shutdowns}
 use Rattle.mea_meet.specs.declared.new_point.NewPoint.{NewPoint}
-
--- what is done to barriers
-abbrev pub barrier_action : BarrierAction → at_barriers.BarrierAction
-barrier_action (barriers.Make n) = at_barriers.Make n
-barrier_action (barriers.Begin b) = at_barriers.Begin b
-barrier_action (barriers.Poll f w) = at_barriers.Poll f w
-barrier_action (barriers.End f) = at_barriers.End f
-barrier_action (barriers.Drop b) = at_barriers.Drop b
 
 -- a new point that counts
 abbrev pub new_seen : NewPoint → New
@@ -50,7 +39,7 @@ count_action (EndSender s) = model.EndSender s
 
 -- what a line means, in the words of the model
 abbrev pub meant : Meaning → model_meaning.Meaning
-meant (Barriers a) = OnBarriers (barrier_action a)
+meant (Barriers a) = OnBarriers a
 meant (Latches a) = OnCounts kinds.Latches (count_action a)
 meant (Numbers l) = OnCounts kinds.Latches (model.Number l)
 meant (Tries l) = OnCounts kinds.Latches (model.Try l)

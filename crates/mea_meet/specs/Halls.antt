@@ -10,7 +10,9 @@ use Rattle.mea_meet_model.specs.Barriers.{Barriers}
 use Rattle.mea_meet_model.specs.Counts as counts
 use Rattle.mea_meet_model.specs.Counts.{Counts}
 use Rattle.mea_meet_model.specs.CountActions.{Action, Number, Try, Now, Arrive, EndHolder, EndWait, EndEither, Send, EndSender, cause_in, act_in}
-use Rattle.mea_meet_model.specs.BarrierActions.{BarrierAction, End, Drop, cause_at, act_at}
+use Rattle.mea_meet_model.specs.declared.barrier_action.BarrierAction.{BarrierAction}
+use Rattle.mea_meet_model.specs.declared.barrier_action.BarrierAction.TheVariants.{End, Drop}
+use Rattle.mea_meet_model.specs.BarrierActions.{cause_at, act_at}
 use Rattle.mea_meet_model.specs.Hall.{Hall, Latches, Groups, Shutdowns}
 use Rattle.mea_meet_model.specs.Meaning.{Meaning, OnBarriers, OnCounts, meaning_of}
 use Rattle.mea_meet_model.specs.Cause.{cause_by}

@@ -1,21 +1,6 @@
 use crate::new_point::NewPoint;
 use mea_family::Form;
 
-/// What a line does to barriers. In each action `b` is the name of a barrier, and `f` that of a future.
-#[derive(Clone, Copy)]
-pub enum BarrierAction {
-    /// Makes a barrier: how many arrivals make a round.
-    Make(u32),
-    /// Makes a future: `b`.
-    Begin(u64),
-    /// Polls a future: `f`, waker.
-    Poll(u64, u64),
-    /// Ends a future; its arrival and its waker stay: `f`.
-    End(u64),
-    /// Ends a barrier at which no future waits: `b`.
-    Drop(u64),
-}
-
 /// What a line does to points that count, of whichever kind. In each action `k` is the name of a holder, `s` that of a
 /// sender, `f` that of a future, and `x` that of a holder or a future.
 #[derive(Clone, Copy)]

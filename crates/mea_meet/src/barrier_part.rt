@@ -1,17 +1,17 @@
 ghost use Rattle.std.specs.Prelude.{◌≡◌, ◌≢◌, ◌≤◌, IfSome, is_some, Some};
 ghost use Rattle.mea_family.specs.Causes.{borrowed_by};
 ghost use Rattle.mea_meet_model.specs.Barriers.{no_barriers, is_barrier, is_wait, waits_of, registered};
-ghost use Rattle.mea_meet_model.specs.BarrierActions.{cause_at, Make, Begin, Poll as PollIt, End, Drop};
-ghost use Rattle.mea_meet.specs.Actions.{barrier_action};
+ghost use Rattle.mea_meet_model.specs.declared.barrier_action.BarrierAction.TheVariants.{Make, Begin, Poll as PollIt, End, Drop};
+ghost use Rattle.mea_meet_model.specs.BarrierActions.{cause_at};
 ghost use Rattle.mea_meet.specs.BarrierParts.{StandsForBarrier};
 ghost use Rattle.mea_meet.specs.Halls.{BarrierActs, BarrierActsQuietly};
 
-use crate::actions::BarrierAction;
 use crate::barrier_entry::{BarrierEntry, BarrierWaitEntry, reply_of};
 use mea_base::{Poll, Ready};
 use mea_by_name::{ByName, NamedWaker};
 use mea_family::{Answer, Stop, borrowed_if, unknown_unless};
 use mea_meet_core::{BarrierCore, BarrierWait};
+use mea_meet_model::BarrierAction;
 use std::alloc::Global;
 use std::marker::Model;
 
@@ -65,7 +65,7 @@ impl BarrierPart {
 
     /// Why an action is refused; None where it is not. It takes no memory.
     pub fn cause(&self, action: BarrierAction) -> Option<Stop>
-        ensures { result ≡ cause_at self.now.hall (barrier_action action) }
+        ensures { result ≡ cause_at self.now.hall action }
     {
         match action {
             BarrierAction::Make(_) => None,
@@ -85,7 +85,7 @@ impl BarrierPart {
     ) -> Result<Answer, Stop>
         requires next { self.old.next ≤ number }
         requires room { registered self.old.hall ≤ ready.old.registered }
-        ensures { BarrierActs self.old number (barrier_action action) result self.new ready.old ready.new }
+        ensures { BarrierActs self.old number action result self.new ready.old ready.new }
     {
         match action {
             BarrierAction::Make(n) => self.make(number, n),

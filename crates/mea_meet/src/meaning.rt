@@ -2,10 +2,11 @@ ghost use Rattle.std.specs.Prelude.{◌≡◌};
 ghost use Rattle.mea_meet_model.specs.Meaning.{meaning_of};
 ghost use Rattle.mea_meet.specs.Actions.{meant, FitsMeaning};
 
-use crate::actions::{BarrierAction, CountAction};
+use crate::actions::CountAction;
 use crate::new_point::NewPoint;
 use mea_events::MeetEvent;
 use mea_family::Form;
+use mea_meet_model::BarrierAction;
 
 /// What a line does, and to meeting points of which kind.
 #[derive(Clone, Copy)]

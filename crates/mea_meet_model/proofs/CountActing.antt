@@ -17,7 +17,7 @@ use Rattle.mea_by_name.proofs.OneObject.{Goes, ObjectsGo, FuturesGo, Touches, Sa
 use Rattle.mea_meet_model.specs.Count.{Count, ends, decreased, woken_by, with_waker}
 use Rattle.mea_meet_model.specs.Counts as counts
 use Rattle.mea_meet_model.specs.Counts.{Counts, Point, End, OfSignal, OfMembers, Holder, Awaited, Signal, Members, Wait, New, count_at, with_count, end_of, joined, parted, woken_by_end, is_holder, registered, things_of, of_wait}
-use Rattle.mea_meet_model.specs.CountActions.{Action, Make, Number, Try, Now, Arrive, Begin, Join, Watch, Into, EndHolder, Copy, Poll, EndWait, EndEither, CopySender, Send, Await, EndSender, act_in, polled_in, ends_in, registers_in, end_by, leave_by}
+use Rattle.mea_meet_model.specs.CountActions.{Action, Make, Arrive, Begin, Join, Watch, Into, EndHolder, Copy, Poll, EndWait, EndEither, CopySender, Send, Await, EndSender, act_in, polled_in, ends_in, registers_in, end_by, leave_by}
 use Rattle.mea_meet_model.specs.Valid.{HasCounts}
 use Rattle.mea_meet_model.proofs.ByHolder.{by_holder}
 
@@ -39,11 +39,7 @@ coming OfMembers (Some OfSignal) = 0
 coming OfMembers (Some OfMembers) = 1
 
 local_decreased : (c : Count) (n k : ℕ) → Local c.waiting (decreased c n).waiting (woken_by c n) k 0
-local_decreased c n k = at (ends c n)
-  where
-    at : (b : Bool) → Local c.waiting (if b then [] else c.waiting) (if b then wakers c.waiting else []) k 0
-    at true = local_drained c.waiting k
-    at false = local_same c.waiting k
+local_decreased c n k = elim (ends c n) as (λ b. Local c.waiting (if b then [] else c.waiting) (if b then wakers c.waiting else []) k 0) [ true ↦ local_drained c.waiting k | false ↦ local_same c.waiting k ]
 
 -- the points and futures before some event
 abbrev pub IsReached : Counts → Type 0
@@ -239,9 +235,6 @@ module _ (h : Counts) (polled : ℕ → Option ℕ) (ends : ℕ → Bool) (i mos
 
   pub acts : (a : Action) → Asks a → Acts (act_in h i a)
   acts (Make new) none = makes (nobody none) new
-  acts (Number k) none = by_holder Acts h (idle none) k (λ x. counts.number h) (λ x r holder there. rests (nobody none) (counts.number h r) refl refl refl)
-  acts (Try k) none = by_holder Acts h (idle none) k (λ x. counts.try h) (λ x r holder there. rests (nobody none) (counts.try h r) refl refl refl)
-  acts (Now k) none = by_holder Acts h (idle none) k (λ x. counts.now h) (λ x r holder there. rests (nobody none) (counts.now h r) refl refl refl)
   acts (Arrive k m) none = by_holder Acts h (idle none) k (λ x. counts.arrive h m x.point) (λ x r holder there. arrives (nobody none) m x.point r there)
   acts (Begin k plain) none = by_found Acts (get h.holders k) h _ (idle none) (λ x holder. begins none (counts.begin h i k plain x) (record { point = x.point; awaits = Signal (cond plain (Some k) None) }) [] [] refl (same i) refl (λ reached. (reached.1.holders.at k x holder).1))
   acts (Join k) none = by_holder Acts h (idle none) k (λ x. counts.join h i x.point x.counted) (λ x r holder there. joins (nobody none) x.point x.counted r there)
@@ -256,6 +249,7 @@ module _ (h : Counts) (polled : ℕ → Option ℕ) (ends : ℕ → Bool) (i mos
   acts (Send k) none = by_found Acts (get h.senders k) h _ (idle none) (λ o sender. by_found Acts (get h.points o) h _ (idle none) (λ r there. arrives (nobody none) 1 o r there))
   acts (Await k) none = by_found Acts (get h.senders k) h _ (idle none) (λ o sender. begins none (counts.await h i k o) (record { point = o; awaits = Members }) [] [] refl (same i) refl (λ reached. (reached.1.senders.at k o sender).1))
   acts (EndSender k) none = by_found Acts (get h.senders k) h _ (idle none) (λ o sender. by_found Acts (get h.points o) h _ (idle none) (λ r there. ends_sender (nobody none) k o r there))
+  acts _ none = by_holder Acts h (idle none) _ _ (λ x r holder there. rests (nobody none) _ refl refl refl)
 
 -- whom the actions poll and end
 pub asks : (h : Counts) (i : ℕ) (a : Action) → Asks h (polled_in a) (ends_in a) i (cond (registers_in a) 1 0) a

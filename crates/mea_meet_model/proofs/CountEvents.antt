@@ -13,7 +13,7 @@ use Rattle.mea_by_name.proofs.Own.{Moves, Stays, Comes, Goes, own-at, own-none, 
 use Rattle.mea_meet_model.specs.Count.{decreased, with_waker}
 use Rattle.mea_meet_model.specs.Counts as counts
 use Rattle.mea_meet_model.specs.Counts.{Counts, Point, End, OfSignal, OfMembers, Holder, Awaited, Signal, Members, Wait, New, new_point, count_at, with_count, end_of, borrows, joined, parted, is_holder, borrowers_of, of_itself, of_holder, of_wait}
-use Rattle.mea_meet_model.specs.CountActions.{Action, Make, Number, Try, Now, Arrive, Begin, Join, Watch, Into, EndHolder, Copy, Poll, EndWait, EndEither, CopySender, Send, Await, EndSender, cause_in, act_in, end_by, leave_by}
+use Rattle.mea_meet_model.specs.CountActions.{Action, Make, Arrive, Begin, Join, Watch, Into, EndHolder, Copy, Poll, EndWait, EndEither, CopySender, Send, Await, EndSender, cause_in, act_in, end_by, leave_by}
 use Rattle.mea_meet_model.specs.Valid.{IsPoint, AreThere, HasCounts, BorrowNothing}
 use Rattle.mea_meet_model.proofs.ByHolder.{by_holder}
 use Rattle.mea_meet_model.proofs.OnePoint as one
@@ -39,15 +39,12 @@ members_borrow a k is mine = absurd (let no : borrows a k ≡ false = ap (λ a. 
 
 joined-was : (r : Point) (b : Bool) (e : End) (f w : ℕ) → waker_for (count_at e (joined r b)).waiting f ≡ Some w → (v : ℕ) × (waker_for (count_at e r).waiting f ≡ Some v)
 joined-was r true OfSignal f w is = (w, is)
-joined-was r false OfSignal f w is = (w, is)
-joined-was r true OfMembers f w is = (w, is)
-joined-was r false OfMembers f w is = (w, is)
+joined-was r _ _ f w is = (w, is)
 
 parted-was : (r : Point) (b : Bool) (e : End) (f w : ℕ) → waker_for (count_at e (parted r b)).waiting f ≡ Some w → (v : ℕ) × (waker_for (count_at e r).waiting f ≡ Some v)
-parted-was r true OfSignal f w is = (w, is)
-parted-was r false OfSignal f w is = (w, is)
 parted-was r true OfMembers f w is = decreased-was r.members 1 f w is
-parted-was r false OfMembers f w is = (w, is)
+parted-was r true OfSignal f w is = (w, is)
+parted-was r false e f w is = (w, is)
 
 fewer-was : (r : Point) (n : ℕ) (e : End) (f w : ℕ) → waker_for (count_at e (record r { signal = decreased r.signal n })).waiting f ≡ Some w → (v : ℕ) × (waker_for (count_at e r).waiting f ≡ Some v)
 fewer-was r n OfSignal f w is = decreased-was r.signal n f w is
@@ -56,9 +53,6 @@ fewer-was r n OfMembers f w is = (w, is)
 module _ (h : Counts) (n i : ℕ) (v : HasCounts h n) (later : n ≤ i) where
   abbrev Keeps : Outcome Counts → Type 0
   Keeps o = HasCounts o.hall (i + 1)
-
-  rests : (o : Outcome Counts) → o.hall ≡ h → Keeps o
-  rests o same = rw same (counts_later h n (i + 1) v (omega (arith, later)))
 
   still : Keeps (quietly h answers.Done)
   still = counts_later h n (i + 1) v (omega (arith, later))
@@ -185,9 +179,6 @@ module _ (h : Counts) (n i : ℕ) (v : HasCounts h n) (later : n ≤ i) where
 
   pub keeps : (a : Action) → cause_in h a ≡ None → MayAct h a → Keeps (act_in h i a)
   keeps (Make new) allowed may = makes new may
-  keeps (Number k) allowed may = by_holder Keeps h still k (λ x. counts.number h) (λ x r holder there. still)
-  keeps (Try k) allowed may = by_holder Keeps h still k (λ x. counts.try h) (λ x r holder there. still)
-  keeps (Now k) allowed may = by_holder Keeps h still k (λ x. counts.now h) (λ x r holder there. still)
   keeps (Arrive k m) allowed may = by_holder Keeps h still k (λ x. counts.arrive h m x.point) (λ x r holder there. arrives x.point r there m)
   keeps (Begin k plain) allowed may = by_found Keeps (get h.holders k) h _ still (λ x holder. new_wait x.point (v.holders.at k x holder).1 (Signal (cond plain (Some k) None)) (lends k x holder plain))
   keeps (Join k) allowed may = by_holder Keeps h still k (λ x. counts.join h i x.point x.counted) (λ x r holder there. joins x.point r there x.counted)
@@ -204,6 +195,7 @@ module _ (h : Counts) (n i : ℕ) (v : HasCounts h n) (later : n ≤ i) where
   keeps (Send k) allowed may = by_found Keeps (get h.senders k) h _ still (λ o sender. by_found Keeps (get h.points o) h _ still (λ r there. arrives o r there 1))
   keeps (Await k) allowed may = by_found Keeps (get h.senders k) h _ still (λ o sender. let it = value_in (get h.points o) (v.senders.at k o sender).1 in awaits o it.0 it.1 k sender)
   keeps (EndSender k) allowed may = by_found Keeps (get h.senders k) h _ still (λ o sender. by_found Keeps (get h.points o) h _ still (λ r there. ends_sender o r there k sender))
+  keeps _ allowed may = by_holder Keeps h still _ _ (λ x r holder there. still)
 
 -- no future borrows afterwards, where none did and none on the signal is made
 pub borrow_nothing : (h : Counts) (i : ℕ) (a : Action) → ((k : ℕ) (plain : Bool) → a ≡ Begin k plain → ⊥) → BorrowNothing h → BorrowNothing (act_in h i a).hall
@@ -226,13 +218,7 @@ borrow_nothing h i a no_begin none = at a no_begin
 
     at : (a : Action) → ((k : ℕ) (plain : Bool) → a ≡ Begin k plain → ⊥) → P (act_in h i a)
     at (Make fresh) ban = none
-    at (Number k) ban = by_holder P h none k (λ x. counts.number h) (λ x r holder there. none)
-    at (Try k) ban = by_holder P h none k (λ x. counts.try h) (λ x r holder there. none)
-    at (Now k) ban = by_holder P h none k (λ x. counts.now h) (λ x r holder there. none)
-    at (Arrive k m) ban = by_holder P h none k (λ x. counts.arrive h m x.point) (λ x r holder there. none)
     at (Begin k plain) ban = absurd (ban k plain refl)
-    at (Join k) ban = by_holder P h none k (λ x. counts.join h i x.point x.counted) (λ x r holder there. none)
-    at (Watch k) ban = by_holder P h none k (λ x. counts.join h i x.point false) (λ x r holder there. none)
     at (Into k) ban = by_holder P h none k (counts.into h i k) (λ x r holder there. none_new x.point)
     at (EndHolder k) ban = leaves k
     at (Copy f) ban = by_found P (get h.waits f) h _ none (λ x future. none_new x.point)
@@ -243,3 +229,4 @@ borrow_nothing h i a no_begin none = at a no_begin
     at (Send k) ban = by_found P (get h.senders k) h _ none (λ o sender. by_found P (get h.points o) h _ none (λ r there. none))
     at (Await k) ban = by_found P (get h.senders k) h _ none (λ o sender. none_new o)
     at (EndSender k) ban = by_found P (get h.senders k) h _ none (λ o sender. by_found P (get h.points o) h _ none (λ r there. none))
+    at _ ban = by_holder P h none _ _ (λ x r holder there. none)

@@ -1,8 +1,8 @@
 -- points that count, after an event that changes one of them and what is of it
-use Rattle.std.proofs.Common.{◌≡◌, ℕ, ◌+◌, ◌<◌, ◌≤◌, ◌==◌, Option, Some, None, IsSome, if◌then◌else◌, refl, ap, sym, subst, ◌∙◌, arith}
+use Rattle.std.proofs.Common.{◌≡◌, ℕ, ◌+◌, ◌<◌, ◌≤◌, ◌==◌, Some, None, IsSome, if◌then◌else◌, refl, ap, sym, subst, ◌∙◌, arith}
 use Rattle.std.specs.FinMap.{get, insert, remove, empty}
 use Rattle.std.proofs.lemmas.Bool.{eqb-true, eqb-false}
-use Rattle.mea_base.proofs.Maps.{by_put, inside, is_there, value_in, get-there, get-other, get-gone, get-removed_other, removed_there, nothing_at, nothing_there}
+use Rattle.mea_base.proofs.Maps.{by_put, inside, is_there, value_in, get-there, get-other, get-gone, get-removed_other, removed_there, none_if, nothing_at, nothing_there}
 use Rattle.mea_base.proofs.Tests.{by_name}
 use Rattle.mea_by_name.specs.ByName.{Names, own, AreHome}
 use Rattle.mea_by_name.proofs.Cases.{by_if}
@@ -46,11 +46,7 @@ counts_later h n m v later = record {
 
 module _ (h : Counts) (n i : ℕ) (v : HasCounts h n) (later : n ≤ i) where
   pub no_point : get h.points i ≡ None
-  no_point = at (get h.points i) refl
-    where
-      at : (p : Option Point) → get h.points i ≡ p → get h.points i ≡ None
-      at None is = is
-      at (Some r) is = absurd (let low = v.below i (is_there (get h.points i) r is) in omega (arith, low, later))
+  no_point = none_if (get h.points i) (λ r is. absurd (let low = v.below i (is_there (get h.points i) r is) in omega (arith, low, later)))
 
   pub no_holder : get h.holders i ≡ None
   no_holder = no_thing of_holder h.points h.holders n i v.holders later

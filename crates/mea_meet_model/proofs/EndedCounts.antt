@@ -9,9 +9,9 @@ use Rattle.mea_by_name.proofs.Own.{own-at}
 use Rattle.mea_meet_model.specs.Count.{count_from, decreased, with_waker}
 use Rattle.mea_meet_model.specs.Counts as counts
 use Rattle.mea_meet_model.specs.Counts.{Counts, Point, End, OfSignal, OfMembers, Holder, Awaited, Signal, Members, New, new_point, count_at, with_count, end_of, joined, parted, is_holder, things_of, of_holder, point_at}
-use Rattle.mea_meet_model.specs.CountActions.{Action, Make, Number, Try, Now, Arrive, Begin, Join, Watch, Into, EndHolder, Copy, Poll, EndWait, EndEither, CopySender, Send, Await, EndSender, act_in, end_by, leave_by}
+use Rattle.mea_meet_model.specs.CountActions.{Action, Make, Arrive, Begin, Join, Watch, Into, EndHolder, Copy, Poll, EndWait, EndEither, CopySender, Send, Await, EndSender, act_in, end_by, leave_by}
 use Rattle.mea_meet_model.specs.Hall.{Hall, Latches, Groups, Shutdowns}
-use Rattle.mea_meet_model.specs.Meaning.{Meaning, OnBarriers, OnCounts}
+use Rattle.mea_meet_model.specs.Meaning.{Meaning, OnCounts}
 use Rattle.mea_meet_model.specs.Step.{step_by}
 use Rattle.mea_meet_model.specs.Valid.{HasCounts}
 use Rattle.mea_meet_model.proofs.ByHolder.{by_holder}
@@ -81,15 +81,11 @@ module _ (h : Counts) (n i : ℕ) (v : HasCounts h n) (later : n ≤ i) where
 
   ends-with : (a : Awaited) (r : Point) (f w : ℕ) → Ends r (with_count (end_of a) r (with_waker (count_at (end_of a) r) f w))
   ends-with (Signal b) r f w OfSignal none = none
-  ends-with (Signal b) r f w OfMembers none = none
   ends-with Members r f w OfSignal none = none
-  ends-with Members r f w OfMembers none = none
+  ends-with _ r f w _ none = none
 
   lasts : (a : Action) → P (act_in h i a)
   lasts (Make new) = made new
-  lasts (Number k) = by_holder P h still k (λ x. counts.number h) (λ x r holder there. still)
-  lasts (Try k) = by_holder P h still k (λ x. counts.try h) (λ x r holder there. still)
-  lasts (Now k) = by_holder P h still k (λ x. counts.now h) (λ x r holder there. still)
   lasts (Arrive k m) = by_holder P h still k (λ x. counts.arrive h m x.point) (λ x r holder there. put x.point r (record r { signal = decreased r.signal m }) there (ends-fewer r m))
   lasts (Begin k plain) = by_found P (get h.holders k) h _ still (λ x holder. still)
   lasts (Join k) = by_holder P h still k (λ x. counts.join h i x.point x.counted) (λ x r holder there. put x.point r (joined r x.counted) there (ends-joined r x.counted (some_counted k x r holder there)))
@@ -105,6 +101,7 @@ module _ (h : Counts) (n i : ℕ) (v : HasCounts h n) (later : n ≤ i) where
   lasts (Send k) = by_found P (get h.senders k) h _ still (λ o sender. by_found P (get h.points o) h _ still (λ r there. put o r (record r { signal = decreased r.signal 1 }) there (ends-fewer r 1)))
   lasts (Await k) = by_found P (get h.senders k) h _ still (λ o sender. still)
   lasts (EndSender k) = by_found P (get h.senders k) h _ still (λ o sender. by_found P (get h.points o) h _ still (λ r there. tidied (record h { senders = remove h.senders k }) o r r refl there (λ e none. none)))
+  lasts _ = by_holder P h still _ _ (λ x r holder there. still)
 
   pub last : (a : Action) (o : ℕ) (e : End) → IsSome (get h.points o) → (count_at e (point_at h o)).number ≡ 0 → (count_at e (point_at (act_in h i a).hall o)).number ≡ 0
   last a = lasts a
@@ -112,19 +109,13 @@ module _ (h : Counts) (n i : ℕ) (v : HasCounts h n) (later : n ≤ i) where
 -- an event on points of one kind, or on barriers, leaves those of the others as they are
 module _ (h : Hall) (n i : ℕ) (later : n ≤ i) (o : ℕ) (e : End) where
   pub latches_last : HasCounts h.latches n → (d : Meaning) → IsSome (get h.latches.points o) → (count_at e (point_at h.latches o)).number ≡ 0 → (count_at e (point_at (step_by h i d).hall.latches o)).number ≡ 0
-  latches_last v (OnBarriers a) some none = none
   latches_last v (OnCounts Latches a) some none = last h.latches n i v later a o e some none
-  latches_last v (OnCounts Groups a) some none = none
-  latches_last v (OnCounts Shutdowns a) some none = none
+  latches_last v _ some none = none
 
   pub groups_last : HasCounts h.groups n → (d : Meaning) → IsSome (get h.groups.points o) → (count_at e (point_at h.groups o)).number ≡ 0 → (count_at e (point_at (step_by h i d).hall.groups o)).number ≡ 0
-  groups_last v (OnBarriers a) some none = none
-  groups_last v (OnCounts Latches a) some none = none
   groups_last v (OnCounts Groups a) some none = last h.groups n i v later a o e some none
-  groups_last v (OnCounts Shutdowns a) some none = none
+  groups_last v _ some none = none
 
   pub shutdowns_last : HasCounts h.shutdowns n → (d : Meaning) → IsSome (get h.shutdowns.points o) → (count_at e (point_at h.shutdowns o)).number ≡ 0 → (count_at e (point_at (step_by h i d).hall.shutdowns o)).number ≡ 0
-  shutdowns_last v (OnBarriers a) some none = none
-  shutdowns_last v (OnCounts Latches a) some none = none
-  shutdowns_last v (OnCounts Groups a) some none = none
   shutdowns_last v (OnCounts Shutdowns a) some none = last h.shutdowns n i v later a o e some none
+  shutdowns_last v _ some none = none

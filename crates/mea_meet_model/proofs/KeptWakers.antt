@@ -26,19 +26,10 @@ use Rattle.mea_meet_model.proofs.EachEvent.{valid_run}
 module _ (h : Hall) (n i : ℕ) (v : IsValid h n) (later : n ≤ i) where
   acts : (d : Meaning) → cause_by h d ≡ None → (s : Sort) → PartActs (polled_by d s) (ends_by d s) i (lives_as h s) (lives_as (step_by h i d).hall s) (placed_as h s) (placed_as (step_by h i d).hall s) (step_by h i d).wakes
   acts (OnBarriers a) allowed AtBarrier = barriers_act h.barriers n i v.barriers later a allowed
-  acts (OnBarriers a) allowed (Of k) = rests i (lives_as h (Of k)) (placed_as h (Of k)) (act_at h.barriers i a).wakes
-  acts (OnCounts Latches a) allowed AtBarrier = rests i (lives_as h AtBarrier) (placed_as h AtBarrier) (act_in h.latches i a).wakes
   acts (OnCounts Latches a) allowed (Of Latches) = counts_act h.latches n i v.latches later a
-  acts (OnCounts Latches a) allowed (Of Groups) = rests i (lives_as h (Of Groups)) (placed_as h (Of Groups)) (act_in h.latches i a).wakes
-  acts (OnCounts Latches a) allowed (Of Shutdowns) = rests i (lives_as h (Of Shutdowns)) (placed_as h (Of Shutdowns)) (act_in h.latches i a).wakes
-  acts (OnCounts Groups a) allowed AtBarrier = rests i (lives_as h AtBarrier) (placed_as h AtBarrier) (act_in h.groups i a).wakes
-  acts (OnCounts Groups a) allowed (Of Latches) = rests i (lives_as h (Of Latches)) (placed_as h (Of Latches)) (act_in h.groups i a).wakes
   acts (OnCounts Groups a) allowed (Of Groups) = counts_act h.groups n i v.groups later a
-  acts (OnCounts Groups a) allowed (Of Shutdowns) = rests i (lives_as h (Of Shutdowns)) (placed_as h (Of Shutdowns)) (act_in h.groups i a).wakes
-  acts (OnCounts Shutdowns a) allowed AtBarrier = rests i (lives_as h AtBarrier) (placed_as h AtBarrier) (act_in h.shutdowns i a).wakes
-  acts (OnCounts Shutdowns a) allowed (Of Latches) = rests i (lives_as h (Of Latches)) (placed_as h (Of Latches)) (act_in h.shutdowns i a).wakes
-  acts (OnCounts Shutdowns a) allowed (Of Groups) = rests i (lives_as h (Of Groups)) (placed_as h (Of Groups)) (act_in h.shutdowns i a).wakes
   acts (OnCounts Shutdowns a) allowed (Of Shutdowns) = counts_act h.shutdowns n i v.shutdowns later a
+  acts d allowed s = rests i (lives_as h s) (placed_as h s) (step_by h i d).wakes
 
 -- ---- whom an event polls is of its sort
 data PolledAs (f w : ℕ) : Meaning → Sort → Type 0 where
@@ -62,8 +53,7 @@ module _ (h : Hall) (i : ℕ) (f w : ℕ) where
   -- a poll that replies `pending` places its waker
   placed_after : (k : Kind) (a : Action) → counts.placed (act_in (part h k) i a).hall f ≡ Some w → placed_as (step_by h i (OnCounts k a)).hall (Of k) f ≡ Some w
   placed_after Latches a is = is
-  placed_after Groups a is = is
-  placed_after Shutdowns a is = is
+  placed_after _ a is = is
 
   places : (d : Meaning) (s : Sort) → PolledAs f w d s → (step_by h i d).reply ≡ answers.Pending → placed_as (step_by h i d).hall s f ≡ Some w
   places _ _ (AtIt a is) = at_barriers.same_poll a f w (λ a. (act_at h.barriers i a).reply ≡ answers.Pending → barriers.placed (act_at h.barriers i a).hall f ≡ Some w) (at_barriers.places h.barriers i f w) is

@@ -28,7 +28,7 @@ module _ (h : Hall) (i : ℕ) where
   pub all : (e : MeetEvent) → HallSettles h (step h i e) (cond (registers e) 1 0)
   all e = by_meaning (meaning_of e)
 
-at_most_one : (b : Bool) → cond b 1 0 ≤ 1
+pub at_most_one : (b : Bool) → cond b 1 0 ≤ 1
 at_most_one true = omega arith
 at_most_one false = omega arith
 

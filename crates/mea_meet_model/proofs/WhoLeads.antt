@@ -18,8 +18,8 @@ use Rattle.mea_meet_model.specs.Barriers.{Barriers, Barrier, BarrierWait, new_ba
 use Rattle.mea_meet_model.specs.BarrierActions as at_barriers
 use Rattle.mea_meet_model.specs.Counts as counts
 use Rattle.mea_meet_model.specs.Counts.{Counts, count_at, end_of, is_holder}
-use Rattle.mea_meet_model.specs.CountActions.{Action, Make, Number, Try, Now, Arrive, Begin, Join, Watch, Into, EndHolder, Copy, Poll, EndWait, EndEither, CopySender, Send, Await, EndSender, act_in, end_by}
-use Rattle.mea_meet_model.specs.Hall.{Hall, Kind, Latches, Groups, Shutdowns, part}
+use Rattle.mea_meet_model.specs.CountActions.{Action, Make, Try, Now, Begin, Copy, Poll, EndWait, EndEither, CopySender, Send, Await, EndSender, act_in, end_by}
+use Rattle.mea_meet_model.specs.Hall.{Hall, Kind, Latches, part}
 use Rattle.mea_meet_model.specs.Meaning.{Meaning, OnBarriers, OnCounts, meaning_of}
 use Rattle.mea_meet_model.specs.Step.{step_by, step}
 use Rattle.mea_meet_model.specs.Leaders.{is_leader, leads_new, leads_there, leads_wait, leads_meant, leads_by, arrivals_new, arrivals_wait, arrivals_meant, arrivals_by, leaders}
@@ -41,15 +41,9 @@ module _ (h : Counts) (i : ℕ) where
 
   pub none_leads : (a : Action) → P (act_in h i a)
   none_leads (Make new) = refl
-  none_leads (Number k) = by_holder P h refl k (λ x. counts.number h) (λ x r holder there. refl)
   none_leads (Try k) = by_holder P h refl k (λ x. counts.try h) (λ x r holder there. told (r.signal.number == 0) answers.Accepted (answers.Left r.signal.number) refl refl)
   none_leads (Now k) = by_holder P h refl k (λ x. counts.now h) (λ x r holder there. told (r.signal.number == 0) answers.Yes answers.No refl refl)
-  none_leads (Arrive k m) = by_holder P h refl k (λ x. counts.arrive h m x.point) (λ x r holder there. refl)
   none_leads (Begin k plain) = by_found P (get h.holders k) h _ refl (λ x holder. refl)
-  none_leads (Join k) = by_holder P h refl k (λ x. counts.join h i x.point x.counted) (λ x r holder there. refl)
-  none_leads (Watch k) = by_holder P h refl k (λ x. counts.join h i x.point false) (λ x r holder there. refl)
-  none_leads (Into k) = by_holder P h refl k (counts.into h i k) (λ x r holder there. refl)
-  none_leads (EndHolder k) = by_holder P h refl k (counts.end_holder h k) (λ x r holder there. refl)
   none_leads (Copy f) = by_found P (get h.waits f) h _ refl (λ x future. refl)
   none_leads (Poll f w) = by_found P (get h.waits f) h _ refl (λ x future. by_found P (get h.points x.point) h _ refl (λ r there. by_if P ((count_at (end_of x.awaits) r).number == 0) _ _ (λ over. refl) (λ goes_on. refl)))
   none_leads (EndWait f) = ends f
@@ -58,6 +52,7 @@ module _ (h : Counts) (i : ℕ) where
   none_leads (Send k) = by_found P (get h.senders k) h _ refl (λ o sender. by_found P (get h.points o) h _ refl (λ r there. refl))
   none_leads (Await k) = by_found P (get h.senders k) h _ refl (λ o sender. refl)
   none_leads (EndSender k) = by_found P (get h.senders k) h _ refl (λ o sender. by_found P (get h.points o) h _ refl (λ r there. refl))
+  none_leads _ = by_holder P h refl _ _ (λ x r holder there. refl)
 
 -- ---- a poll at a barrier
 module _ (h : Barriers) (f w : ℕ) (x : BarrierWait) where
@@ -85,10 +80,7 @@ module _ (h : Hall) (i : ℕ) where
   by_meaning : (d : Meaning) → is_leader (step_by h i d).reply ≡ leads_meant h d
   by_meaning (OnCounts k a) = none_leads (part h k) i a
   by_meaning (OnBarriers (at_barriers.Poll f w)) = leader-poll h.barriers f w (get h.barriers.waits f)
-  by_meaning (OnBarriers (at_barriers.Make n)) = refl
-  by_meaning (OnBarriers (at_barriers.Begin b)) = refl
-  by_meaning (OnBarriers (at_barriers.End f)) = refl
-  by_meaning (OnBarriers (at_barriers.Drop b)) = refl
+  by_meaning _ = refl
 
 pub exactly : (h : Hall) (i : ℕ) (e : MeetEvent) → is_leader (step h i e).reply ≡ leads_by h e
 exactly h i e = by_meaning h i (meaning_of e)
@@ -153,8 +145,7 @@ arrives-meant h n i (OnCounts k a) v later = still k
   where
     still : (k : Kind) → Arrives h.barriers (step_by h i (OnCounts k a)).hall.barriers (λ b. 0)
     still Latches = arrives-same h.barriers h.barriers refl (λ b. 0) (λ b. refl)
-    still Groups = arrives-same h.barriers h.barriers refl (λ b. 0) (λ b. refl)
-    still Shutdowns = arrives-same h.barriers h.barriers refl (λ b. 0) (λ b. refl)
+    still _ = arrives-same h.barriers h.barriers refl (λ b. 0) (λ b. refl)
 
 pub arrives : (h : Hall) (n i : ℕ) (e : MeetEvent) → IsValid h n → n ≤ i → (b : ℕ) → IsSome (get h.barriers.barriers b) → IsSome (get (step h i e).hall.barriers.barriers b)
     → (barrier_at (step h i e).hall.barriers b).arrivals ≡ (barrier_at h.barriers b).arrivals + arrivals_by h e b

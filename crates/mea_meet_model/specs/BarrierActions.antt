@@ -7,13 +7,8 @@ use Rattle.mea_family.specs.Family.{Outcome}
 use Rattle.mea_family.specs.Play.{found}
 use Rattle.mea_meet_model.specs.Barriers as barriers
 use Rattle.mea_meet_model.specs.Barriers.{Barriers, is_barrier, is_wait, waits_of}
-
-pub data BarrierAction : Type 0 where
-  Make : ℕ → BarrierAction
-  Begin : ℕ → BarrierAction
-  Poll : ℕ → ℕ → BarrierAction
-  End : ℕ → BarrierAction
-  Drop : ℕ → BarrierAction
+pub use Rattle.mea_meet_model.specs.declared.barrier_action.BarrierAction.{BarrierAction}
+pub use Rattle.mea_meet_model.specs.declared.barrier_action.BarrierAction.TheVariants.{Make, Begin, Poll, End, Drop}
 
 abbrev pub cause_at : Barriers → BarrierAction → Option Stop
 cause_at h (Make n) = None

@@ -1,6 +1,6 @@
 use Rattle.std.proofs.Common.{None, inl, refl, sym, ◌∙◌}
 use Rattle.mea_by_name.proofs.Own.{gone_none}
-use Rattle.mea_chan_model.specs.Boxes.{DropBox}
+use Rattle.mea_chan_model.specs.declared.box_action.BoxAction.TheVariants.{DropBox}
 use Rattle.mea_chan.proofs.BoxEvents.{cause_is}
 use Rattle.mea_chan.proofs.box_part.BoxPart.end.Goals as goal
 

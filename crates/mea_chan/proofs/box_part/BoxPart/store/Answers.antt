@@ -1,7 +1,7 @@
 use Rattle.std.proofs.Common.{Some, inr, refl, sym, ap, ◌∙◌}
 use Rattle.std.specs.Option.{option_copied_mut}
 use Rattle.mea_by_name.proofs.Own.{insert_same}
-use Rattle.mea_chan_model.specs.Boxes.{Store}
+use Rattle.mea_chan_model.specs.declared.box_action.BoxAction.TheVariants.{Store}
 use Rattle.mea_chan.proofs.BoxEvents.{costs, cause_is}
 use Rattle.mea_chan.proofs.box_part.BoxPart.store.Goals as goal
 

@@ -26,7 +26,7 @@ pub remove_if-requires : goal.remove_if-requires
 remove_if-requires c = λ over. over_there (site c.self.inside.channels c.self.inside.senders c.self.inside.receivers c.self.inside.futures c.self.inside.next c.self.view_is c.self.invariant c.requires.next) c.in-Some.o c.at_mut-entry.result.now c.at_mut-entry.ensures.value _
 
 pub invariant_of-self-2 : goal.invariant_of-self-2
-invariant_of-self-2 c = rw c.remove_if.ensures (sender_ended (site c.self.inside.channels c.self.inside.senders c.self.inside.receivers c.self.inside.futures c.self.inside.next c.self.view_is c.self.invariant c.requires.next) c.args.s c.in-Some.o c.at_mut-entry.result.now (sym c.take.ensures.value ∙ c.in-Some.is) c.at_mut-entry.ensures.value c.end_sender.new.core c.args.ready.now c.end_sender.new.ready c.ranges.number.fits _ c.take.ensures.rest c.is_over-over.result (sym c.is_over-over.ensures) c.end_sender.ensures).0
+invariant_of-self-2 c = rw c.remove_if.ensures (sender_ended (site c.self.inside.channels c.self.inside.senders c.self.inside.receivers c.self.inside.futures c.self.inside.next c.self.view_is c.self.invariant c.requires.next) c.args.s c.in-Some.o c.at_mut-entry.result.now (sym c.take.ensures.value ∙ c.in-Some.is) c.at_mut-entry.ensures.value c.end_sender.new.self c.args.ready.now c.end_sender.new.ready c.ranges.number.fits _ c.take.ensures.rest c.is_over-over.result (sym c.is_over-over.ensures) c.end_sender.ensures).0
 
 pub returns : goal.returns
-returns c = ((ap unknown_unless (sym (sender_is c.self.inside.channels c.self.inside.senders c.self.inside.receivers c.self.inside.futures c.self.inside.next c.self.view_is c.args.s (Some c.in-Some.o) (sym c.take.ensures.value ∙ c.in-Some.is)))), rw c.remove_if.ensures (sender_ended (site c.self.inside.channels c.self.inside.senders c.self.inside.receivers c.self.inside.futures c.self.inside.next c.self.view_is c.self.invariant c.requires.next) c.args.s c.in-Some.o c.at_mut-entry.result.now (sym c.take.ensures.value ∙ c.in-Some.is) c.at_mut-entry.ensures.value c.end_sender.new.core c.args.ready.now c.end_sender.new.ready c.ranges.number.fits _ c.take.ensures.rest c.is_over-over.result (sym c.is_over-over.ensures) c.end_sender.ensures).1)
+returns c = ((ap unknown_unless (sym (sender_is c.self.inside.channels c.self.inside.senders c.self.inside.receivers c.self.inside.futures c.self.inside.next c.self.view_is c.args.s (Some c.in-Some.o) (sym c.take.ensures.value ∙ c.in-Some.is)))), rw c.remove_if.ensures (sender_ended (site c.self.inside.channels c.self.inside.senders c.self.inside.receivers c.self.inside.futures c.self.inside.next c.self.view_is c.self.invariant c.requires.next) c.args.s c.in-Some.o c.at_mut-entry.result.now (sym c.take.ensures.value ∙ c.in-Some.is) c.at_mut-entry.ensures.value c.end_sender.new.self c.args.ready.now c.end_sender.new.ready c.ranges.number.fits _ c.take.ensures.rest c.is_over-over.result (sym c.is_over-over.ensures) c.end_sender.ensures).1)

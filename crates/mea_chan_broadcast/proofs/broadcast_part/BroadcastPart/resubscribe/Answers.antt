@@ -1,6 +1,6 @@
 use Rattle.std.proofs.Common.{ℕ, refl, ap, sym, ◌∙◌, arith}
 use Rattle.mea_chan_model.specs.Broadcasts.{join}
-use Rattle.mea_chan_model.specs.BroadcastActions.{Resubscribe}
+use Rattle.mea_chan_model.specs.declared.broadcast_action.BroadcastAction.TheVariants.{Resubscribe}
 use Rattle.mea_chan_broadcast.specs.BroadcastParts.{broadcast_seen}
 use Rattle.mea_family.proofs.Refusals.{as_told}
 use Rattle.mea_chan_broadcast.proofs.Events.{site, receiver_there, receivers_channel, resubscribes_as, its_channel_there, joined_as}

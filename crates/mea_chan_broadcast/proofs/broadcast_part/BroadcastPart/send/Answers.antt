@@ -25,7 +25,7 @@ pub send-requires-clause-room : goal.send-requires-clause-room
 send-requires-clause-room c = its_room (site c.self.inside.channels c.self.inside.senders c.self.inside.receivers c.self.inside.futures c.self.inside.next c.self.view_is c.self.invariant c.requires.next) c.in-Some.o.now c.at_mut-entry.result.now c.at_mut-entry.ensures.value c.args.ready.now c.requires.room
 
 pub invariant_of-self-2 : goal.invariant_of-self-2
-invariant_of-self-2 c = (sent (site c.self.inside.channels c.self.inside.senders c.self.inside.receivers c.self.inside.futures c.self.inside.next c.self.view_is c.self.invariant c.requires.next) c.args.s c.in-Some.o.now c.at_mut-entry.result.now (sym c.get.ensures ∙ ap option_copied c.in-Some.is) c.at_mut-entry.ensures.value c.send.new.core c.args.ready.now c.send.new.ready c.ranges.number.fits c.args.message (may_send (site c.self.inside.channels c.self.inside.senders c.self.inside.receivers c.self.inside.futures c.self.inside.next c.self.view_is c.self.invariant c.requires.next) c.args.s c.in-Some.o.now c.at_mut-entry.result.now (sym c.get.ensures ∙ ap option_copied c.in-Some.is) c.at_mut-entry.ensures.value c.args.message (λ last. c.if-tail.false (c.tail.ensures ∙ last))) c.send.ensures).0
+invariant_of-self-2 c = (sent (site c.self.inside.channels c.self.inside.senders c.self.inside.receivers c.self.inside.futures c.self.inside.next c.self.view_is c.self.invariant c.requires.next) c.args.s c.in-Some.o.now c.at_mut-entry.result.now (sym c.get.ensures ∙ ap option_copied c.in-Some.is) c.at_mut-entry.ensures.value c.send.new.self c.args.ready.now c.send.new.ready c.ranges.number.fits c.args.message (may_send (site c.self.inside.channels c.self.inside.senders c.self.inside.receivers c.self.inside.futures c.self.inside.next c.self.view_is c.self.invariant c.requires.next) c.args.s c.in-Some.o.now c.at_mut-entry.result.now (sym c.get.ensures ∙ ap option_copied c.in-Some.is) c.at_mut-entry.ensures.value c.args.message (λ last. c.if-tail.false (c.tail.ensures ∙ last))) c.send.ensures).0
 
 pub returns : goal.returns
-returns c = ((may_send (site c.self.inside.channels c.self.inside.senders c.self.inside.receivers c.self.inside.futures c.self.inside.next c.self.view_is c.self.invariant c.requires.next) c.args.s c.in-Some.o.now c.at_mut-entry.result.now (sym c.get.ensures ∙ ap option_copied c.in-Some.is) c.at_mut-entry.ensures.value c.args.message (λ last. c.if-tail.false (c.tail.ensures ∙ last))), (sent (site c.self.inside.channels c.self.inside.senders c.self.inside.receivers c.self.inside.futures c.self.inside.next c.self.view_is c.self.invariant c.requires.next) c.args.s c.in-Some.o.now c.at_mut-entry.result.now (sym c.get.ensures ∙ ap option_copied c.in-Some.is) c.at_mut-entry.ensures.value c.send.new.core c.args.ready.now c.send.new.ready c.ranges.number.fits c.args.message (may_send (site c.self.inside.channels c.self.inside.senders c.self.inside.receivers c.self.inside.futures c.self.inside.next c.self.view_is c.self.invariant c.requires.next) c.args.s c.in-Some.o.now c.at_mut-entry.result.now (sym c.get.ensures ∙ ap option_copied c.in-Some.is) c.at_mut-entry.ensures.value c.args.message (λ last. c.if-tail.false (c.tail.ensures ∙ last))) c.send.ensures).1)
+returns c = ((may_send (site c.self.inside.channels c.self.inside.senders c.self.inside.receivers c.self.inside.futures c.self.inside.next c.self.view_is c.self.invariant c.requires.next) c.args.s c.in-Some.o.now c.at_mut-entry.result.now (sym c.get.ensures ∙ ap option_copied c.in-Some.is) c.at_mut-entry.ensures.value c.args.message (λ last. c.if-tail.false (c.tail.ensures ∙ last))), (sent (site c.self.inside.channels c.self.inside.senders c.self.inside.receivers c.self.inside.futures c.self.inside.next c.self.view_is c.self.invariant c.requires.next) c.args.s c.in-Some.o.now c.at_mut-entry.result.now (sym c.get.ensures ∙ ap option_copied c.in-Some.is) c.at_mut-entry.ensures.value c.send.new.self c.args.ready.now c.send.new.ready c.ranges.number.fits c.args.message (may_send (site c.self.inside.channels c.self.inside.senders c.self.inside.receivers c.self.inside.futures c.self.inside.next c.self.view_is c.self.invariant c.requires.next) c.args.s c.in-Some.o.now c.at_mut-entry.result.now (sym c.get.ensures ∙ ap option_copied c.in-Some.is) c.at_mut-entry.ensures.value c.args.message (λ last. c.if-tail.false (c.tail.ensures ∙ last))) c.send.ensures).1)

@@ -2,7 +2,7 @@ use Rattle.std.proofs.Common.{ℕ, Some, None, inl, refl, ap, sym, ◌∙◌, ar
 use Rattle.std.specs.Option.{option_copied}
 use Rattle.mea_family.specs.Causes.{unknown_unless}
 use Rattle.mea_chan_model.specs.Broadcasts.{join}
-use Rattle.mea_chan_model.specs.BroadcastActions.{Subscribe}
+use Rattle.mea_chan_model.specs.declared.broadcast_action.BroadcastAction.TheVariants.{Subscribe}
 use Rattle.mea_chan_broadcast.specs.BroadcastParts.{broadcast_seen}
 use Rattle.mea_chan_broadcast.proofs.Events.{site, sender_is, senders_channel, subscribes_as, channel_seen, joined_as}
 use Rattle.mea_chan_broadcast.proofs.broadcast_part.BroadcastPart.subscribe.Goals as goal

@@ -3,8 +3,8 @@ use Rattle.std.specs.Option.{option_copied_mut}
 use Rattle.std.specs.FinMap.{insert}
 use Rattle.mea_base.proofs.Maps.{get-there, is_there}
 use Rattle.mea_family.specs.Causes.{unknown_unless}
-use Rattle.mea_lock.proofs.PartEvents.{site, poll_cause, looked, its_lock, its_room}
-use Rattle.mea_lock.proofs.FutureEvents.{waits_alone, future_may_poll, undone, pended, kept_waiting, readied}
+use Rattle.mea_lock.proofs.PartEvents.{site, poll_cause, looked, its_lock, its_room, let_in}
+use Rattle.mea_lock.proofs.FutureEvents.{waits_alone, future_may_poll, undone, pended, readied}
 use Rattle.mea_family.proofs.Refusals.{unknown, lacking}
 use Rattle.mea_lock.proofs.part.LockPart.poll.Goals as goal
 
@@ -26,51 +26,37 @@ poll-requires-clause-allowed g c = future_may_poll (site c.self.inside.locks c.s
 pub poll-requires-clause-room : goal.poll-requires-clause-room
 poll-requires-clause-room g c = its_room (site c.self.inside.locks c.self.inside.futures c.self.inside.guards.things c.self.inside.next c.self.view_is c.self.invariant c.requires.next c.ranges.number.fits) c.guard-guard.result.lock c.at_mut-entry.result.now c.at_mut-entry.ensures.value c.args.ready.now c.requires.room
 
-pub invariant_of-self-in_default-poll : goal.invariant_of-self-in_default-poll
-invariant_of-self-in_default-poll g c = rw c.guard-guard.ensures (undone (site c.self.inside.locks c.self.inside.futures c.self.inside.guards.things c.self.inside.next c.self.view_is c.self.invariant c.requires.next c.ranges.number.fits) c.args.f c.in-Some.future.now c.at_mut-entry.result.now (sym c.get_mut.ensures.value ∙ ap option_copied_mut c.in-Some.is) (rw c.guard-guard.ensures at c.at_mut-entry.ensures.value) _ _ _ c.in_default-poll.ensures.err.0 c.in_default-poll.ensures.err.1 refl).0
+pub invariant_of-self-in_default-make_room : goal.invariant_of-self-in_default-make_room
+invariant_of-self-in_default-make_room g c = rw c.guard-guard.ensures (undone (site c.self.inside.locks c.self.inside.futures c.self.inside.guards.things c.self.inside.next c.self.view_is c.self.invariant c.requires.next c.ranges.number.fits) c.args.f c.in-Some.future.now c.at_mut-entry.result.now (sym c.get_mut.ensures.value ∙ ap option_copied_mut c.in-Some.is) (rw c.guard-guard.ensures at c.at_mut-entry.ensures.value) _ _ _ refl refl c.make_room.ensures.things).0
 
-pub returns-in_default-poll : goal.returns-in_default-poll
-returns-in_default-poll g c = (lacking _ _ (poll_cause (site c.self.inside.locks c.self.inside.futures c.self.inside.guards.things c.self.inside.next c.self.view_is c.self.invariant c.requires.next c.ranges.number.fits) c.args.f c.args.waker (Some c.in-Some.future.now) (sym c.get_mut.ensures.value ∙ ap option_copied_mut c.in-Some.is) ∙ ap (λ b. unknown_unless (not b)) (sym c.is_of_condvar.ensures ∙ c.if-is_of_condvar.false)) (λ none. none), rw c.guard-guard.ensures (undone (site c.self.inside.locks c.self.inside.futures c.self.inside.guards.things c.self.inside.next c.self.view_is c.self.invariant c.requires.next c.ranges.number.fits) c.args.f c.in-Some.future.now c.at_mut-entry.result.now (sym c.get_mut.ensures.value ∙ ap option_copied_mut c.in-Some.is) (rw c.guard-guard.ensures at c.at_mut-entry.ensures.value) _ _ _ c.in_default-poll.ensures.err.0 c.in_default-poll.ensures.err.1 refl).1, c.in_default-poll.ensures.err.2)
-
-pub invariant_of-self-then-keeps_out : goal.invariant_of-self-then-keeps_out
-invariant_of-self-then-keeps_out g c = rw c.guard-guard.ensures (kept_waiting (site c.self.inside.locks c.self.inside.futures c.self.inside.guards.things c.self.inside.next c.self.view_is c.self.invariant c.requires.next c.ranges.number.fits) c.args.f c.in-Some.future.now c.at_mut-entry.result.now (sym c.get_mut.ensures.value ∙ ap option_copied_mut c.in-Some.is) (rw c.guard-guard.ensures at c.at_mut-entry.ensures.value) (waits_alone (site c.self.inside.locks c.self.inside.futures c.self.inside.guards.things c.self.inside.next c.self.view_is c.self.invariant c.requires.next c.ranges.number.fits) c.args.f c.in-Some.future.now c.at_mut-entry.result.now (sym c.get_mut.ensures.value ∙ ap option_copied_mut c.in-Some.is) (rw c.guard-guard.ensures at c.at_mut-entry.ensures.value) (sym c.is_of_condvar.ensures ∙ c.if-is_of_condvar.false)) c.args.waker c.poll.new.self c.poll.new.future c.args.ready.now c.poll.new.ready _ c.in-Ok.ensures.polls (sym c.keeps_out.ensures ∙ c.if-keeps_out.true)).0
-
-pub returns-then-keeps_out : goal.returns-then-keeps_out
-returns-then-keeps_out g c = ((poll_cause (site c.self.inside.locks c.self.inside.futures c.self.inside.guards.things c.self.inside.next c.self.view_is c.self.invariant c.requires.next c.ranges.number.fits) c.args.f c.args.waker (Some c.in-Some.future.now) (sym c.get_mut.ensures.value ∙ ap option_copied_mut c.in-Some.is) ∙ ap (λ b. unknown_unless (not b)) (sym c.is_of_condvar.ensures ∙ c.if-is_of_condvar.false)), rw c.guard-guard.ensures (kept_waiting (site c.self.inside.locks c.self.inside.futures c.self.inside.guards.things c.self.inside.next c.self.view_is c.self.invariant c.requires.next c.ranges.number.fits) c.args.f c.in-Some.future.now c.at_mut-entry.result.now (sym c.get_mut.ensures.value ∙ ap option_copied_mut c.in-Some.is) (rw c.guard-guard.ensures at c.at_mut-entry.ensures.value) (waits_alone (site c.self.inside.locks c.self.inside.futures c.self.inside.guards.things c.self.inside.next c.self.view_is c.self.invariant c.requires.next c.ranges.number.fits) c.args.f c.in-Some.future.now c.at_mut-entry.result.now (sym c.get_mut.ensures.value ∙ ap option_copied_mut c.in-Some.is) (rw c.guard-guard.ensures at c.at_mut-entry.ensures.value) (sym c.is_of_condvar.ensures ∙ c.if-is_of_condvar.false)) c.args.waker c.poll.new.self c.poll.new.future c.args.ready.now c.poll.new.ready _ c.in-Ok.ensures.polls (sym c.keeps_out.ensures ∙ c.if-keeps_out.true)).1)
-
-pub invariant_of-self-in_default-reserve : goal.invariant_of-self-in_default-reserve
-invariant_of-self-in_default-reserve g c = rw c.guard-guard.ensures (undone (site c.self.inside.locks c.self.inside.futures c.self.inside.guards.things c.self.inside.next c.self.view_is c.self.invariant c.requires.next c.ranges.number.fits) c.args.f c.in-Some.future.now c.at_mut-entry.result.now (sym c.get_mut.ensures.value ∙ ap option_copied_mut c.in-Some.is) (rw c.guard-guard.ensures at c.at_mut-entry.ensures.value) _ _ _ refl refl c.reserve.ensures.things).0
-
-pub returns-in_default-reserve : goal.returns-in_default-reserve
-returns-in_default-reserve g c = (lacking _ _ (poll_cause (site c.self.inside.locks c.self.inside.futures c.self.inside.guards.things c.self.inside.next c.self.view_is c.self.invariant c.requires.next c.ranges.number.fits) c.args.f c.args.waker (Some c.in-Some.future.now) (sym c.get_mut.ensures.value ∙ ap option_copied_mut c.in-Some.is) ∙ ap (λ b. unknown_unless (not b)) (sym c.is_of_condvar.ensures ∙ c.if-is_of_condvar.false)) (λ none. none), rw c.guard-guard.ensures (undone (site c.self.inside.locks c.self.inside.futures c.self.inside.guards.things c.self.inside.next c.self.view_is c.self.invariant c.requires.next c.ranges.number.fits) c.args.f c.in-Some.future.now c.at_mut-entry.result.now (sym c.get_mut.ensures.value ∙ ap option_copied_mut c.in-Some.is) (rw c.guard-guard.ensures at c.at_mut-entry.ensures.value) _ _ _ refl refl c.reserve.ensures.things).1, refl)
-
-pub poll-requires-2-clause-allowed : goal.poll-requires-2-clause-allowed
-poll-requires-2-clause-allowed g c = future_may_poll (site c.self.inside.locks c.self.inside.futures c.self.inside.guards.things c.self.inside.next c.self.view_is c.self.invariant c.requires.next c.ranges.number.fits) c.args.f c.in-Some.future.now c.at_mut-entry.result.now (sym c.get_mut.ensures.value ∙ ap option_copied_mut c.in-Some.is) (rw c.guard-guard.ensures at c.at_mut-entry.ensures.value)
-
-pub poll-requires-2-clause-room : goal.poll-requires-2-clause-room
-poll-requires-2-clause-room g c = its_room (site c.self.inside.locks c.self.inside.futures c.self.inside.guards.things c.self.inside.next c.self.view_is c.self.invariant c.requires.next c.ranges.number.fits) c.guard-guard.result.lock c.at_mut-entry.result.now c.at_mut-entry.ensures.value c.args.ready.now c.requires.room
+pub returns-in_default-make_room : goal.returns-in_default-make_room
+returns-in_default-make_room g c = (lacking _ _ (poll_cause (site c.self.inside.locks c.self.inside.futures c.self.inside.guards.things c.self.inside.next c.self.view_is c.self.invariant c.requires.next c.ranges.number.fits) c.args.f c.args.waker (Some c.in-Some.future.now) (sym c.get_mut.ensures.value ∙ ap option_copied_mut c.in-Some.is) ∙ ap (λ b. unknown_unless (not b)) (sym c.is_of_condvar.ensures ∙ c.if-is_of_condvar.false)) (λ none. none), rw c.guard-guard.ensures (undone (site c.self.inside.locks c.self.inside.futures c.self.inside.guards.things c.self.inside.next c.self.view_is c.self.invariant c.requires.next c.ranges.number.fits) c.args.f c.in-Some.future.now c.at_mut-entry.result.now (sym c.get_mut.ensures.value ∙ ap option_copied_mut c.in-Some.is) (rw c.guard-guard.ensures at c.at_mut-entry.ensures.value) _ _ _ refl refl c.make_room.ensures.things).1, refl)
 
 pub invariant_of-self-in-Err : goal.invariant_of-self-in-Err
-invariant_of-self-in-Err g c = rw c.guard-guard.ensures (undone (site c.self.inside.locks c.self.inside.futures c.self.inside.guards.things c.self.inside.next c.self.view_is c.self.invariant c.requires.next c.ranges.number.fits) c.args.f c.in-Some.future.now c.at_mut-entry.result.now (sym c.get_mut.ensures.value ∙ ap option_copied_mut c.in-Some.is) (rw c.guard-guard.ensures at c.at_mut-entry.ensures.value) _ _ _ c.in-Err.ensures.err.0 c.in-Err.ensures.err.1 c.reserve.ensures.things).0
+invariant_of-self-in-Err g c = rw c.guard-guard.ensures (undone (site c.self.inside.locks c.self.inside.futures c.self.inside.guards.things c.self.inside.next c.self.view_is c.self.invariant c.requires.next c.ranges.number.fits) c.args.f c.in-Some.future.now c.at_mut-entry.result.now (sym c.get_mut.ensures.value ∙ ap option_copied_mut c.in-Some.is) (rw c.guard-guard.ensures at c.at_mut-entry.ensures.value) _ _ _ c.in-Err.ensures.err.0 c.in-Err.ensures.err.1 c.make_room.ensures.things).0
 
 pub returns-in-Err : goal.returns-in-Err
-returns-in-Err g c = (lacking _ _ (poll_cause (site c.self.inside.locks c.self.inside.futures c.self.inside.guards.things c.self.inside.next c.self.view_is c.self.invariant c.requires.next c.ranges.number.fits) c.args.f c.args.waker (Some c.in-Some.future.now) (sym c.get_mut.ensures.value ∙ ap option_copied_mut c.in-Some.is) ∙ ap (λ b. unknown_unless (not b)) (sym c.is_of_condvar.ensures ∙ c.if-is_of_condvar.false)) (λ none. none), rw c.guard-guard.ensures (undone (site c.self.inside.locks c.self.inside.futures c.self.inside.guards.things c.self.inside.next c.self.view_is c.self.invariant c.requires.next c.ranges.number.fits) c.args.f c.in-Some.future.now c.at_mut-entry.result.now (sym c.get_mut.ensures.value ∙ ap option_copied_mut c.in-Some.is) (rw c.guard-guard.ensures at c.at_mut-entry.ensures.value) _ _ _ c.in-Err.ensures.err.0 c.in-Err.ensures.err.1 c.reserve.ensures.things).1, c.in-Err.ensures.err.2)
+returns-in-Err g c = (lacking _ _ (poll_cause (site c.self.inside.locks c.self.inside.futures c.self.inside.guards.things c.self.inside.next c.self.view_is c.self.invariant c.requires.next c.ranges.number.fits) c.args.f c.args.waker (Some c.in-Some.future.now) (sym c.get_mut.ensures.value ∙ ap option_copied_mut c.in-Some.is) ∙ ap (λ b. unknown_unless (not b)) (sym c.is_of_condvar.ensures ∙ c.if-is_of_condvar.false)) (λ none. none), rw c.guard-guard.ensures (undone (site c.self.inside.locks c.self.inside.futures c.self.inside.guards.things c.self.inside.next c.self.view_is c.self.invariant c.requires.next c.ranges.number.fits) c.args.f c.in-Some.future.now c.at_mut-entry.result.now (sym c.get_mut.ensures.value ∙ ap option_copied_mut c.in-Some.is) (rw c.guard-guard.ensures at c.at_mut-entry.ensures.value) _ _ _ c.in-Err.ensures.err.0 c.in-Err.ensures.err.1 c.make_room.ensures.things).1, c.in-Err.ensures.err.2)
 
 pub invariant_of-self-in-Ok-Pending : goal.invariant_of-self-in-Ok-Pending
 invariant_of-self-in-Ok-Pending g c = let polled = rw c.in-Ok-Pending.field-0-is at c.in-Ok-Pending.ensures.polls in
-    rw c.guard-guard.ensures (pended (site c.self.inside.locks c.self.inside.futures c.self.inside.guards.things c.self.inside.next c.self.view_is c.self.invariant c.requires.next c.ranges.number.fits) c.args.f c.in-Some.future.now c.at_mut-entry.result.now (sym c.get_mut.ensures.value ∙ ap option_copied_mut c.in-Some.is) (rw c.guard-guard.ensures at c.at_mut-entry.ensures.value) (waits_alone (site c.self.inside.locks c.self.inside.futures c.self.inside.guards.things c.self.inside.next c.self.view_is c.self.invariant c.requires.next c.ranges.number.fits) c.args.f c.in-Some.future.now c.at_mut-entry.result.now (sym c.get_mut.ensures.value ∙ ap option_copied_mut c.in-Some.is) (rw c.guard-guard.ensures at c.at_mut-entry.ensures.value) (sym c.is_of_condvar.ensures ∙ c.if-is_of_condvar.false)) c.args.waker c.poll-2.new.self c.poll-2.new.future c.args.ready.now c.poll-2.new.ready polled _ c.reserve.ensures.things).0
+    rw c.guard-guard.ensures (pended (site c.self.inside.locks c.self.inside.futures c.self.inside.guards.things c.self.inside.next c.self.view_is c.self.invariant c.requires.next c.ranges.number.fits) c.args.f c.in-Some.future.now c.at_mut-entry.result.now (sym c.get_mut.ensures.value ∙ ap option_copied_mut c.in-Some.is) (rw c.guard-guard.ensures at c.at_mut-entry.ensures.value) (waits_alone (site c.self.inside.locks c.self.inside.futures c.self.inside.guards.things c.self.inside.next c.self.view_is c.self.invariant c.requires.next c.ranges.number.fits) c.args.f c.in-Some.future.now c.at_mut-entry.result.now (sym c.get_mut.ensures.value ∙ ap option_copied_mut c.in-Some.is) (rw c.guard-guard.ensures at c.at_mut-entry.ensures.value) (sym c.is_of_condvar.ensures ∙ c.if-is_of_condvar.false)) c.args.waker c.poll.new.self c.poll.new.future c.args.ready.now c.poll.new.ready polled _ c.make_room.ensures.things).0
 
 pub returns-in-Ok-Pending : goal.returns-in-Ok-Pending
 returns-in-Ok-Pending g c = let polled = rw c.in-Ok-Pending.field-0-is at c.in-Ok-Pending.ensures.polls in
-    ((poll_cause (site c.self.inside.locks c.self.inside.futures c.self.inside.guards.things c.self.inside.next c.self.view_is c.self.invariant c.requires.next c.ranges.number.fits) c.args.f c.args.waker (Some c.in-Some.future.now) (sym c.get_mut.ensures.value ∙ ap option_copied_mut c.in-Some.is) ∙ ap (λ b. unknown_unless (not b)) (sym c.is_of_condvar.ensures ∙ c.if-is_of_condvar.false)), rw c.guard-guard.ensures (pended (site c.self.inside.locks c.self.inside.futures c.self.inside.guards.things c.self.inside.next c.self.view_is c.self.invariant c.requires.next c.ranges.number.fits) c.args.f c.in-Some.future.now c.at_mut-entry.result.now (sym c.get_mut.ensures.value ∙ ap option_copied_mut c.in-Some.is) (rw c.guard-guard.ensures at c.at_mut-entry.ensures.value) (waits_alone (site c.self.inside.locks c.self.inside.futures c.self.inside.guards.things c.self.inside.next c.self.view_is c.self.invariant c.requires.next c.ranges.number.fits) c.args.f c.in-Some.future.now c.at_mut-entry.result.now (sym c.get_mut.ensures.value ∙ ap option_copied_mut c.in-Some.is) (rw c.guard-guard.ensures at c.at_mut-entry.ensures.value) (sym c.is_of_condvar.ensures ∙ c.if-is_of_condvar.false)) c.args.waker c.poll-2.new.self c.poll-2.new.future c.args.ready.now c.poll-2.new.ready polled _ c.reserve.ensures.things).1)
+    ((poll_cause (site c.self.inside.locks c.self.inside.futures c.self.inside.guards.things c.self.inside.next c.self.view_is c.self.invariant c.requires.next c.ranges.number.fits) c.args.f c.args.waker (Some c.in-Some.future.now) (sym c.get_mut.ensures.value ∙ ap option_copied_mut c.in-Some.is) ∙ ap (λ b. unknown_unless (not b)) (sym c.is_of_condvar.ensures ∙ c.if-is_of_condvar.false)), rw c.guard-guard.ensures (pended (site c.self.inside.locks c.self.inside.futures c.self.inside.guards.things c.self.inside.next c.self.view_is c.self.invariant c.requires.next c.ranges.number.fits) c.args.f c.in-Some.future.now c.at_mut-entry.result.now (sym c.get_mut.ensures.value ∙ ap option_copied_mut c.in-Some.is) (rw c.guard-guard.ensures at c.at_mut-entry.ensures.value) (waits_alone (site c.self.inside.locks c.self.inside.futures c.self.inside.guards.things c.self.inside.next c.self.view_is c.self.invariant c.requires.next c.ranges.number.fits) c.args.f c.in-Some.future.now c.at_mut-entry.result.now (sym c.get_mut.ensures.value ∙ ap option_copied_mut c.in-Some.is) (rw c.guard-guard.ensures at c.at_mut-entry.ensures.value) (sym c.is_of_condvar.ensures ∙ c.if-is_of_condvar.false)) c.args.waker c.poll.new.self c.poll.new.future c.args.ready.now c.poll.new.ready polled _ c.make_room.ensures.things).1)
+
+pub insert-requires : goal.insert-requires
+insert-requires g c = let polled = rw c.in-Ok-Ready.field-0-is at c.in-Ok-Ready.ensures.polls in
+    c.in-Ok.ensures.room (c.may_have.ensures ∙ let_in c.at_mut-entry.result.now.lock _ c.in-Some.future.now.holds _ polled.polls.lets_in)
 
 pub remove-requires : goal.remove-requires
 remove-requires g c = is_there _ _ (get-there c.self.inside.futures c.args.f _)
 
 pub invariant_of-self-in-Ok-Ready : goal.invariant_of-self-in-Ok-Ready
 invariant_of-self-in-Ok-Ready g c = let polled = rw c.in-Ok-Ready.field-0-is at c.in-Ok-Ready.ensures.polls in
-    rw c.guard-guard.ensures (readied (site c.self.inside.locks c.self.inside.futures c.self.inside.guards.things c.self.inside.next c.self.view_is c.self.invariant c.requires.next c.ranges.number.fits) c.args.f c.in-Some.future.now c.at_mut-entry.result.now (sym c.get_mut.ensures.value ∙ ap option_copied_mut c.in-Some.is) (rw c.guard-guard.ensures at c.at_mut-entry.ensures.value) (waits_alone (site c.self.inside.locks c.self.inside.futures c.self.inside.guards.things c.self.inside.next c.self.view_is c.self.invariant c.requires.next c.ranges.number.fits) c.args.f c.in-Some.future.now c.at_mut-entry.result.now (sym c.get_mut.ensures.value ∙ ap option_copied_mut c.in-Some.is) (rw c.guard-guard.ensures at c.at_mut-entry.ensures.value) (sym c.is_of_condvar.ensures ∙ c.if-is_of_condvar.false)) c.args.waker c.poll-2.new.self c.poll-2.new.future c.args.ready.now c.poll-2.new.ready _ polled _ c.remove.ensures.rest _ (rw c.guard-guard.ensures at (c.insert.ensures.things ∙ ap (λ gs. insert gs c.args.number c.guard-guard.result) c.reserve.ensures.things))).0
+    rw c.guard-guard.ensures (readied (site c.self.inside.locks c.self.inside.futures c.self.inside.guards.things c.self.inside.next c.self.view_is c.self.invariant c.requires.next c.ranges.number.fits) c.args.f c.in-Some.future.now c.at_mut-entry.result.now (sym c.get_mut.ensures.value ∙ ap option_copied_mut c.in-Some.is) (rw c.guard-guard.ensures at c.at_mut-entry.ensures.value) (waits_alone (site c.self.inside.locks c.self.inside.futures c.self.inside.guards.things c.self.inside.next c.self.view_is c.self.invariant c.requires.next c.ranges.number.fits) c.args.f c.in-Some.future.now c.at_mut-entry.result.now (sym c.get_mut.ensures.value ∙ ap option_copied_mut c.in-Some.is) (rw c.guard-guard.ensures at c.at_mut-entry.ensures.value) (sym c.is_of_condvar.ensures ∙ c.if-is_of_condvar.false)) c.args.waker c.poll.new.self c.poll.new.future c.args.ready.now c.poll.new.ready _ polled _ c.remove.ensures.rest _ (rw c.guard-guard.ensures at (c.insert.ensures.things ∙ ap (λ gs. insert gs c.args.number c.guard-guard.result) c.make_room.ensures.things))).0
 
 pub returns-in-Ok-Ready : goal.returns-in-Ok-Ready
 returns-in-Ok-Ready g c = let polled = rw c.in-Ok-Ready.field-0-is at c.in-Ok-Ready.ensures.polls in
-    ((poll_cause (site c.self.inside.locks c.self.inside.futures c.self.inside.guards.things c.self.inside.next c.self.view_is c.self.invariant c.requires.next c.ranges.number.fits) c.args.f c.args.waker (Some c.in-Some.future.now) (sym c.get_mut.ensures.value ∙ ap option_copied_mut c.in-Some.is) ∙ ap (λ b. unknown_unless (not b)) (sym c.is_of_condvar.ensures ∙ c.if-is_of_condvar.false)), rw c.guard-guard.ensures (readied (site c.self.inside.locks c.self.inside.futures c.self.inside.guards.things c.self.inside.next c.self.view_is c.self.invariant c.requires.next c.ranges.number.fits) c.args.f c.in-Some.future.now c.at_mut-entry.result.now (sym c.get_mut.ensures.value ∙ ap option_copied_mut c.in-Some.is) (rw c.guard-guard.ensures at c.at_mut-entry.ensures.value) (waits_alone (site c.self.inside.locks c.self.inside.futures c.self.inside.guards.things c.self.inside.next c.self.view_is c.self.invariant c.requires.next c.ranges.number.fits) c.args.f c.in-Some.future.now c.at_mut-entry.result.now (sym c.get_mut.ensures.value ∙ ap option_copied_mut c.in-Some.is) (rw c.guard-guard.ensures at c.at_mut-entry.ensures.value) (sym c.is_of_condvar.ensures ∙ c.if-is_of_condvar.false)) c.args.waker c.poll-2.new.self c.poll-2.new.future c.args.ready.now c.poll-2.new.ready _ polled _ c.remove.ensures.rest _ (rw c.guard-guard.ensures at (c.insert.ensures.things ∙ ap (λ gs. insert gs c.args.number c.guard-guard.result) c.reserve.ensures.things))).1)
+    ((poll_cause (site c.self.inside.locks c.self.inside.futures c.self.inside.guards.things c.self.inside.next c.self.view_is c.self.invariant c.requires.next c.ranges.number.fits) c.args.f c.args.waker (Some c.in-Some.future.now) (sym c.get_mut.ensures.value ∙ ap option_copied_mut c.in-Some.is) ∙ ap (λ b. unknown_unless (not b)) (sym c.is_of_condvar.ensures ∙ c.if-is_of_condvar.false)), rw c.guard-guard.ensures (readied (site c.self.inside.locks c.self.inside.futures c.self.inside.guards.things c.self.inside.next c.self.view_is c.self.invariant c.requires.next c.ranges.number.fits) c.args.f c.in-Some.future.now c.at_mut-entry.result.now (sym c.get_mut.ensures.value ∙ ap option_copied_mut c.in-Some.is) (rw c.guard-guard.ensures at c.at_mut-entry.ensures.value) (waits_alone (site c.self.inside.locks c.self.inside.futures c.self.inside.guards.things c.self.inside.next c.self.view_is c.self.invariant c.requires.next c.ranges.number.fits) c.args.f c.in-Some.future.now c.at_mut-entry.result.now (sym c.get_mut.ensures.value ∙ ap option_copied_mut c.in-Some.is) (rw c.guard-guard.ensures at c.at_mut-entry.ensures.value) (sym c.is_of_condvar.ensures ∙ c.if-is_of_condvar.false)) c.args.waker c.poll.new.self c.poll.new.future c.args.ready.now c.poll.new.ready _ polled _ c.remove.ensures.rest _ (rw c.guard-guard.ensures at (c.insert.ensures.things ∙ ap (λ gs. insert gs c.args.number c.guard-guard.result) c.make_room.ensures.things))).1)

@@ -1,5 +1,5 @@
-use Rattle.std.proofs.Common.{refl, sym, ◌∙◌}
-use Rattle.mea_meet.proofs.BarrierSites.{site, wait_unknown, untaken, waits_barrier, some_waits, ended}
+use Rattle.std.proofs.Common.{None, refl, sym, ◌∙◌}
+use Rattle.mea_meet.proofs.BarrierSites.{site, wait_told, untaken, waits_barrier, some_waits, ended}
 use Rattle.mea_family.proofs.Refusals.{unknown}
 use Rattle.mea_meet.proofs.barrier_part.BarrierPart.end.Goals as goal
 
@@ -7,7 +7,7 @@ pub invariant_of-self : goal.invariant_of-self
 invariant_of-self c = (untaken (site c.self.inside.barriers c.self.inside.waits c.self.inside.next c.self.view_is c.self.invariant c.requires) c.args.f (sym c.take.ensures.value ∙ c.in_default.is) _ c.take.ensures.rest).0
 
 pub returns-in_default : goal.returns-in_default
-returns-in_default c = (unknown _ _ (wait_unknown (site c.self.inside.barriers c.self.inside.waits c.self.inside.next c.self.view_is c.self.invariant c.requires) c.args.f (sym c.take.ensures.value ∙ c.in_default.is)), (untaken (site c.self.inside.barriers c.self.inside.waits c.self.inside.next c.self.view_is c.self.invariant c.requires) c.args.f (sym c.take.ensures.value ∙ c.in_default.is) _ c.take.ensures.rest).1)
+returns-in_default c = (unknown _ _ (wait_told (site c.self.inside.barriers c.self.inside.waits c.self.inside.next c.self.view_is c.self.invariant c.requires) c.args.f None (sym c.take.ensures.value ∙ c.in_default.is)), (untaken (site c.self.inside.barriers c.self.inside.waits c.self.inside.next c.self.view_is c.self.invariant c.requires) c.args.f (sym c.take.ensures.value ∙ c.in_default.is) _ c.take.ensures.rest).1)
 
 pub at_mut-requires : goal.at_mut-requires
 at_mut-requires c = waits_barrier (site c.self.inside.barriers c.self.inside.waits c.self.inside.next c.self.view_is c.self.invariant c.requires) c.args.f c.in-Some.future (sym c.take.ensures.value ∙ c.in-Some.is)

@@ -1,13 +1,13 @@
-use Rattle.std.proofs.Common.{refl, sym, ap, ◌∙◌, arith}
+use Rattle.std.proofs.Common.{None, Some, refl, sym, ap, ◌∙◌, arith}
 use Rattle.std.specs.Option.{option_copied_mut}
 use Rattle.mea_base.proofs.Maps.{get-there, is_there}
 use Rattle.mea_by_name.proofs.Own.{put_gone}
-use Rattle.mea_meet.proofs.BarrierSites.{site, wait_unknown, wait_known, waits_barrier, some_waits, its_quiet, its_few, its_room, opened, unpolled, pends, readies}
+use Rattle.mea_meet.proofs.BarrierSites.{site, wait_told, waits_barrier, some_waits, its_quiet, its_few, its_room, opened, unpolled, pends, readies}
 use Rattle.mea_family.proofs.Refusals.{unknown, lacking}
 use Rattle.mea_meet.proofs.barrier_part.BarrierPart.poll.Goals as goal
 
 pub returns-in_default : goal.returns-in_default
-returns-in_default c = (unknown _ _ (wait_unknown (site c.self.inside.barriers c.self.inside.waits c.self.inside.next c.self.view_is c.self.invariant c.requires.next) c.args.f (sym c.get_mut.ensures.value ∙ ap option_copied_mut c.in_default.is)), c.self.view_is, refl)
+returns-in_default c = (unknown _ _ (wait_told (site c.self.inside.barriers c.self.inside.waits c.self.inside.next c.self.view_is c.self.invariant c.requires.next) c.args.f None (sym c.get_mut.ensures.value ∙ ap option_copied_mut c.in_default.is)), c.self.view_is, refl)
 
 pub at_mut-entry-requires : goal.at_mut-entry-requires
 at_mut-entry-requires c = waits_barrier (site c.self.inside.barriers c.self.inside.waits c.self.inside.next c.self.view_is c.self.invariant c.requires.next) c.args.f c.in-Some.future.now (sym c.get_mut.ensures.value ∙ ap option_copied_mut c.in-Some.is)
@@ -28,7 +28,7 @@ pub invariant_of-self-in-Err : goal.invariant_of-self-in-Err
 invariant_of-self-in-Err c = (unpolled (site c.self.inside.barriers c.self.inside.waits c.self.inside.next c.self.view_is c.self.invariant c.requires.next) c.in-Some.future.now.barrier c.at_mut-entry.result.now c.at_mut-entry.ensures.value c.args.f c.in-Some.future.now (sym c.get_mut.ensures.value ∙ ap option_copied_mut c.in-Some.is) refl c.poll.new.self c.poll.new.wait c.in-Err.ensures.err.0 c.in-Err.ensures.err.1).0
 
 pub returns-in-Err : goal.returns-in-Err
-returns-in-Err c = (lacking _ _ (wait_known (site c.self.inside.barriers c.self.inside.waits c.self.inside.next c.self.view_is c.self.invariant c.requires.next) c.args.f c.in-Some.future.now (sym c.get_mut.ensures.value ∙ ap option_copied_mut c.in-Some.is)) (λ none. none), (unpolled (site c.self.inside.barriers c.self.inside.waits c.self.inside.next c.self.view_is c.self.invariant c.requires.next) c.in-Some.future.now.barrier c.at_mut-entry.result.now c.at_mut-entry.ensures.value c.args.f c.in-Some.future.now (sym c.get_mut.ensures.value ∙ ap option_copied_mut c.in-Some.is) refl c.poll.new.self c.poll.new.wait c.in-Err.ensures.err.0 c.in-Err.ensures.err.1).1, c.in-Err.ensures.err.2)
+returns-in-Err c = (lacking _ _ (wait_told (site c.self.inside.barriers c.self.inside.waits c.self.inside.next c.self.view_is c.self.invariant c.requires.next) c.args.f (Some c.in-Some.future.now) (sym c.get_mut.ensures.value ∙ ap option_copied_mut c.in-Some.is)) (λ none. none), (unpolled (site c.self.inside.barriers c.self.inside.waits c.self.inside.next c.self.view_is c.self.invariant c.requires.next) c.in-Some.future.now.barrier c.at_mut-entry.result.now c.at_mut-entry.ensures.value c.args.f c.in-Some.future.now (sym c.get_mut.ensures.value ∙ ap option_copied_mut c.in-Some.is) refl c.poll.new.self c.poll.new.wait c.in-Err.ensures.err.0 c.in-Err.ensures.err.1).1, c.in-Err.ensures.err.2)
 
 pub invariant_of-self-in-Ok-Pending : goal.invariant_of-self-in-Ok-Pending
 invariant_of-self-in-Ok-Pending c = let turns = rw c.in-Ok-Pending.field-0-is at c.in-Ok-Pending.ensures.turns in (pends (site c.self.inside.barriers c.self.inside.waits c.self.inside.next c.self.view_is c.self.invariant c.requires.next) c.in-Some.future.now.barrier c.at_mut-entry.result.now c.at_mut-entry.ensures.value c.args.f c.in-Some.future.now (sym c.get_mut.ensures.value ∙ ap option_copied_mut c.in-Some.is) refl c.args.waker c.poll.new.self c.poll.new.wait c.args.ready.now c.poll.new.ready turns).0

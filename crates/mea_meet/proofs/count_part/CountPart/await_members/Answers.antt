@@ -1,16 +1,16 @@
-use Rattle.std.proofs.Common.{refl, sym, ap, ◌∙◌}
+use Rattle.std.proofs.Common.{None, Some, refl, sym, ap, ◌∙◌}
 use Rattle.std.specs.Option.{option_copied}
 use Rattle.mea_base.proofs.Maps.{is_there}
 use Rattle.mea_meet.proofs.CountSites.{site}
-use Rattle.mea_meet.proofs.CountCalls.{sender_unknown, sender_known, untold, awaited}
+use Rattle.mea_meet.proofs.CountCalls.{sender_told, untold, awaited}
 use Rattle.mea_family.proofs.Refusals.{unknown, lacking}
 use Rattle.mea_meet.proofs.count_part.CountPart.await_members.Goals as goal
 
 pub returns-in_default : goal.returns-in_default
-returns-in_default g c = (unknown _ _ (sender_unknown (site c.self.inside.points c.self.inside.senders c.self.inside.holders c.self.inside.waits c.self.inside.next c.self.view_is c.self.invariant c.requires) c.args.s (sym c.get.ensures ∙ ap option_copied c.in_default.is)), refl)
+returns-in_default g c = (unknown _ _ (sender_told (site c.self.inside.points c.self.inside.senders c.self.inside.holders c.self.inside.waits c.self.inside.next c.self.view_is c.self.invariant c.requires) c.args.s None (sym c.get.ensures ∙ ap option_copied c.in_default.is)), refl)
 
 pub returns-in_default-insert : goal.returns-in_default-insert
-returns-in_default-insert g c = (lacking _ _ (sender_known (site c.self.inside.points c.self.inside.senders c.self.inside.holders c.self.inside.waits c.self.inside.next c.self.view_is c.self.invariant c.requires) c.args.s c.in-Some.o.now (sym c.get.ensures ∙ ap option_copied c.in-Some.is)) (λ none. none), (untold (site c.self.inside.points c.self.inside.senders c.self.inside.holders c.self.inside.waits c.self.inside.next c.self.view_is c.self.invariant c.requires) _ _ _ _ refl refl refl c.in_default-insert.ensures.err).1)
+returns-in_default-insert g c = (lacking _ _ (sender_told (site c.self.inside.points c.self.inside.senders c.self.inside.holders c.self.inside.waits c.self.inside.next c.self.view_is c.self.invariant c.requires) c.args.s (Some c.in-Some.o.now) (sym c.get.ensures ∙ ap option_copied c.in-Some.is)) (λ none. none), (untold (site c.self.inside.points c.self.inside.senders c.self.inside.holders c.self.inside.waits c.self.inside.next c.self.view_is c.self.invariant c.requires) _ _ _ _ refl refl refl c.in_default-insert.ensures.err).1)
 
 pub remove-requires : goal.remove-requires
 remove-requires g c = is_there _ _ (sym c.get.ensures ∙ ap option_copied c.in-Some.is)

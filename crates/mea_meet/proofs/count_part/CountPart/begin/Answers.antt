@@ -1,19 +1,19 @@
-use Rattle.std.proofs.Common.{sym, ap, ◌∙◌, arith}
+use Rattle.std.proofs.Common.{None, Some, sym, ap, ◌∙◌, arith}
 use Rattle.std.specs.Option.{option_copied_mut}
 use Rattle.mea_meet_model.specs.Counts as model
 use Rattle.mea_meet.proofs.CountSites.{site, holders_point, its_few}
-use Rattle.mea_meet.proofs.CountCalls.{holder_unknown, holder_known, unlent, few_borrow, begun}
+use Rattle.mea_meet.proofs.CountCalls.{holder_told, unlent, few_borrow, begun}
 use Rattle.mea_family.proofs.Refusals.{unknown, lacking}
 use Rattle.mea_meet.proofs.count_part.CountPart.begin.Goals as goal
 
 pub returns-in_default : goal.returns-in_default
-returns-in_default g c = (unknown _ _ (holder_unknown (site c.self.inside.points c.self.inside.senders c.self.inside.holders c.self.inside.waits c.self.inside.next c.self.view_is c.self.invariant c.requires) c.args.k (sym c.get_mut.ensures.value ∙ ap option_copied_mut c.in_default.is)), c.self.view_is)
+returns-in_default g c = (unknown _ _ (holder_told (site c.self.inside.points c.self.inside.senders c.self.inside.holders c.self.inside.waits c.self.inside.next c.self.view_is c.self.invariant c.requires) c.args.k None (sym c.get_mut.ensures.value ∙ ap option_copied_mut c.in_default.is)), c.self.view_is)
 
 pub invariant_of-self-in_default-insert : goal.invariant_of-self-in_default-insert
 invariant_of-self-in_default-insert g c = rw c.in_default-insert.ensures.err (unlent (site c.self.inside.points c.self.inside.senders c.self.inside.holders c.self.inside.waits c.self.inside.next c.self.view_is c.self.invariant c.requires) c.args.k c.in-Some.holder.now (sym c.get_mut.ensures.value ∙ ap option_copied_mut c.in-Some.is)).0
 
 pub returns-in_default-insert : goal.returns-in_default-insert
-returns-in_default-insert g c = (lacking _ _ (holder_known (site c.self.inside.points c.self.inside.senders c.self.inside.holders c.self.inside.waits c.self.inside.next c.self.view_is c.self.invariant c.requires) c.args.k c.in-Some.holder.now (sym c.get_mut.ensures.value ∙ ap option_copied_mut c.in-Some.is)) (λ none. none), rw c.in_default-insert.ensures.err (unlent (site c.self.inside.points c.self.inside.senders c.self.inside.holders c.self.inside.waits c.self.inside.next c.self.view_is c.self.invariant c.requires) c.args.k c.in-Some.holder.now (sym c.get_mut.ensures.value ∙ ap option_copied_mut c.in-Some.is)).1)
+returns-in_default-insert g c = (lacking _ _ (holder_told (site c.self.inside.points c.self.inside.senders c.self.inside.holders c.self.inside.waits c.self.inside.next c.self.view_is c.self.invariant c.requires) c.args.k (Some c.in-Some.holder.now) (sym c.get_mut.ensures.value ∙ ap option_copied_mut c.in-Some.is)) (λ none. none), rw c.in_default-insert.ensures.err (unlent (site c.self.inside.points c.self.inside.senders c.self.inside.holders c.self.inside.waits c.self.inside.next c.self.view_is c.self.invariant c.requires) c.args.k c.in-Some.holder.now (sym c.get_mut.ensures.value ∙ ap option_copied_mut c.in-Some.is)).1)
 
 pub overflow_add-holder : goal.overflow_add-holder
 overflow_add-holder g c = let few = few_borrow (site c.self.inside.points c.self.inside.senders c.self.inside.holders c.self.inside.waits c.self.inside.next c.self.view_is c.self.invariant c.requires) c.ranges.number.fits c.args.k c.in-Some.holder.now (sym c.get_mut.ensures.value ∙ ap option_copied_mut c.in-Some.is) c.one_if.result c.is_plain-plain.result c.one_if.ensures in omega (arith, few)

@@ -1,15 +1,15 @@
-use Rattle.std.proofs.Common.{refl, sym, ap, ◌∙◌}
+use Rattle.std.proofs.Common.{None, Some, refl, sym, ap, ◌∙◌}
 use Rattle.std.specs.Option.{option_copied}
 use Rattle.mea_meet.proofs.CountSites.{site, waits_point, its_few}
-use Rattle.mea_meet.proofs.CountCalls.{wait_unknown, wait_known, copied_wait, untold}
+use Rattle.mea_meet.proofs.CountCalls.{wait_told, copied_wait, untold}
 use Rattle.mea_family.proofs.Refusals.{unknown, lacking}
 use Rattle.mea_meet.proofs.count_part.CountPart.copy.Goals as goal
 
 pub returns-in_default : goal.returns-in_default
-returns-in_default g c = (unknown _ _ (wait_unknown (site c.self.inside.points c.self.inside.senders c.self.inside.holders c.self.inside.waits c.self.inside.next c.self.view_is c.self.invariant c.requires) c.args.f (sym c.get.ensures ∙ ap option_copied c.in_default.is)), refl)
+returns-in_default g c = (unknown _ _ (wait_told (site c.self.inside.points c.self.inside.senders c.self.inside.holders c.self.inside.waits c.self.inside.next c.self.view_is c.self.invariant c.requires) c.args.f None (sym c.get.ensures ∙ ap option_copied c.in_default.is)), refl)
 
 pub returns-in_default-insert : goal.returns-in_default-insert
-returns-in_default-insert g c = (lacking _ _ (wait_known (site c.self.inside.points c.self.inside.senders c.self.inside.holders c.self.inside.waits c.self.inside.next c.self.view_is c.self.invariant c.requires) c.args.f c.in-Some.other.now (sym c.get.ensures ∙ ap option_copied c.in-Some.is)) (λ none. none), (untold (site c.self.inside.points c.self.inside.senders c.self.inside.holders c.self.inside.waits c.self.inside.next c.self.view_is c.self.invariant c.requires) _ _ _ _ refl refl refl c.in_default-insert.ensures.err).1)
+returns-in_default-insert g c = (lacking _ _ (wait_told (site c.self.inside.points c.self.inside.senders c.self.inside.holders c.self.inside.waits c.self.inside.next c.self.view_is c.self.invariant c.requires) c.args.f (Some c.in-Some.other.now) (sym c.get.ensures ∙ ap option_copied c.in-Some.is)) (λ none. none), (untold (site c.self.inside.points c.self.inside.senders c.self.inside.holders c.self.inside.waits c.self.inside.next c.self.view_is c.self.invariant c.requires) _ _ _ _ refl refl refl c.in_default-insert.ensures.err).1)
 
 pub at_mut-requires : goal.at_mut-requires
 at_mut-requires g c = waits_point (site c.self.inside.points c.self.inside.senders c.self.inside.holders c.self.inside.waits c.self.inside.next c.self.view_is c.self.invariant c.requires) c.args.f c.in-Some.other.now (sym c.get.ensures ∙ ap option_copied c.in-Some.is)

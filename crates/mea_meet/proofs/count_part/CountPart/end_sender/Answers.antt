@@ -1,6 +1,6 @@
-use Rattle.std.proofs.Common.{refl, sym, ◌∙◌}
+use Rattle.std.proofs.Common.{None, refl, sym, ◌∙◌}
 use Rattle.mea_meet.proofs.CountSites.{site, senders_point, its_room, over_there}
-use Rattle.mea_meet.proofs.CountCalls.{sender_unknown, untaken_sender, sender_left, sender_some}
+use Rattle.mea_meet.proofs.CountCalls.{sender_told, untaken_sender, sender_left, sender_some}
 use Rattle.mea_family.proofs.Refusals.{unknown}
 use Rattle.mea_meet.proofs.count_part.CountPart.end_sender.Goals as goal
 
@@ -8,7 +8,7 @@ pub invariant_of-self : goal.invariant_of-self
 invariant_of-self g c = (untaken_sender (site c.self.inside.points c.self.inside.senders c.self.inside.holders c.self.inside.waits c.self.inside.next c.self.view_is c.self.invariant c.requires.next) c.args.s (sym c.take.ensures.value ∙ c.in_default.is) _ c.take.ensures.rest).0
 
 pub returns-in_default : goal.returns-in_default
-returns-in_default g c = (unknown _ _ (sender_unknown (site c.self.inside.points c.self.inside.senders c.self.inside.holders c.self.inside.waits c.self.inside.next c.self.view_is c.self.invariant c.requires.next) c.args.s (sym c.take.ensures.value ∙ c.in_default.is)), (untaken_sender (site c.self.inside.points c.self.inside.senders c.self.inside.holders c.self.inside.waits c.self.inside.next c.self.view_is c.self.invariant c.requires.next) c.args.s (sym c.take.ensures.value ∙ c.in_default.is) _ c.take.ensures.rest).1, refl)
+returns-in_default g c = (unknown _ _ (sender_told (site c.self.inside.points c.self.inside.senders c.self.inside.holders c.self.inside.waits c.self.inside.next c.self.view_is c.self.invariant c.requires.next) c.args.s None (sym c.take.ensures.value ∙ c.in_default.is)), (untaken_sender (site c.self.inside.points c.self.inside.senders c.self.inside.holders c.self.inside.waits c.self.inside.next c.self.view_is c.self.invariant c.requires.next) c.args.s (sym c.take.ensures.value ∙ c.in_default.is) _ c.take.ensures.rest).1, refl)
 
 pub at_mut-requires : goal.at_mut-requires
 at_mut-requires g c = senders_point (site c.self.inside.points c.self.inside.senders c.self.inside.holders c.self.inside.waits c.self.inside.next c.self.view_is c.self.invariant c.requires.next) c.args.s c.in-Some.o (sym c.take.ensures.value ∙ c.in-Some.is)

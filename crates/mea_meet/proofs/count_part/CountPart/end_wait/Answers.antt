@@ -1,6 +1,6 @@
-use Rattle.std.proofs.Common.{refl, sym, ◌∙◌}
+use Rattle.std.proofs.Common.{None, refl, sym, ◌∙◌}
 use Rattle.mea_meet.proofs.CountSites.{site, waits_point, its_room, over_there}
-use Rattle.mea_meet.proofs.CountCalls.{wait_unknown, untaken_wait, wait_left, lender_some, wait_some}
+use Rattle.mea_meet.proofs.CountCalls.{wait_told, untaken_wait, wait_left, lender_some, wait_some}
 use Rattle.mea_family.proofs.Refusals.{unknown}
 use Rattle.mea_meet.proofs.count_part.CountPart.end_wait.Goals as goal
 
@@ -8,7 +8,7 @@ pub invariant_of-self : goal.invariant_of-self
 invariant_of-self g c = (untaken_wait (site c.self.inside.points c.self.inside.senders c.self.inside.holders c.self.inside.waits c.self.inside.next c.self.view_is c.self.invariant c.requires.next) c.args.f (sym c.take.ensures.value ∙ c.in_default.is) _ c.take.ensures.rest).0
 
 pub returns-in_default : goal.returns-in_default
-returns-in_default g c = (unknown _ _ (wait_unknown (site c.self.inside.points c.self.inside.senders c.self.inside.holders c.self.inside.waits c.self.inside.next c.self.view_is c.self.invariant c.requires.next) c.args.f (sym c.take.ensures.value ∙ c.in_default.is)), (untaken_wait (site c.self.inside.points c.self.inside.senders c.self.inside.holders c.self.inside.waits c.self.inside.next c.self.view_is c.self.invariant c.requires.next) c.args.f (sym c.take.ensures.value ∙ c.in_default.is) _ c.take.ensures.rest).1, refl)
+returns-in_default g c = (unknown _ _ (wait_told (site c.self.inside.points c.self.inside.senders c.self.inside.holders c.self.inside.waits c.self.inside.next c.self.view_is c.self.invariant c.requires.next) c.args.f None (sym c.take.ensures.value ∙ c.in_default.is)), (untaken_wait (site c.self.inside.points c.self.inside.senders c.self.inside.holders c.self.inside.waits c.self.inside.next c.self.view_is c.self.invariant c.requires.next) c.args.f (sym c.take.ensures.value ∙ c.in_default.is) _ c.take.ensures.rest).1, refl)
 
 pub give_back-requires : goal.give_back-requires
 give_back-requires g c = lender_some (site c.self.inside.points c.self.inside.senders c.self.inside.holders c.self.inside.waits c.self.inside.next c.self.view_is c.self.invariant c.requires.next) c.args.f c.in-Some.future (sym c.take.ensures.value ∙ c.in-Some.is) c.borrowed.result c.borrowed.ensures

@@ -1,16 +1,16 @@
-use Rattle.std.proofs.Common.{refl, sym, ap, ◌∙◌}
+use Rattle.std.proofs.Common.{None, Some, refl, sym, ap, ◌∙◌}
 use Rattle.std.specs.Option.{option_copied}
 use Rattle.mea_base.proofs.Maps.{is_there}
 use Rattle.mea_meet.proofs.CountSites.{site, holders_point, its, its_room}
-use Rattle.mea_meet.proofs.CountCalls.{holder_unknown, holder_known, untold, gone_over, counted_lives}
+use Rattle.mea_meet.proofs.CountCalls.{holder_told, untold, gone_over, counted_lives}
 use Rattle.mea_family.proofs.Refusals.{unknown, lacking}
 use Rattle.mea_meet.proofs.count_part.CountPart.into_wait.Goals as goal
 
 pub returns-in_default : goal.returns-in_default
-returns-in_default g c = (unknown _ _ (holder_unknown (site c.self.inside.points c.self.inside.senders c.self.inside.holders c.self.inside.waits c.self.inside.next c.self.view_is c.self.invariant c.requires.next) c.args.k (sym c.get.ensures ∙ ap option_copied c.in_default.is)), refl, refl)
+returns-in_default g c = (unknown _ _ (holder_told (site c.self.inside.points c.self.inside.senders c.self.inside.holders c.self.inside.waits c.self.inside.next c.self.view_is c.self.invariant c.requires.next) c.args.k None (sym c.get.ensures ∙ ap option_copied c.in_default.is)), refl, refl)
 
 pub returns-in_default-insert : goal.returns-in_default-insert
-returns-in_default-insert g c = (lacking _ _ (holder_known (site c.self.inside.points c.self.inside.senders c.self.inside.holders c.self.inside.waits c.self.inside.next c.self.view_is c.self.invariant c.requires.next) c.args.k c.in-Some.holder.now (sym c.get.ensures ∙ ap option_copied c.in-Some.is)) (λ none. none), (untold (site c.self.inside.points c.self.inside.senders c.self.inside.holders c.self.inside.waits c.self.inside.next c.self.view_is c.self.invariant c.requires.next) _ _ _ _ refl refl refl c.in_default-insert.ensures.err).1, refl)
+returns-in_default-insert g c = (lacking _ _ (holder_told (site c.self.inside.points c.self.inside.senders c.self.inside.holders c.self.inside.waits c.self.inside.next c.self.view_is c.self.invariant c.requires.next) c.args.k (Some c.in-Some.holder.now) (sym c.get.ensures ∙ ap option_copied c.in-Some.is)) (λ none. none), (untold (site c.self.inside.points c.self.inside.senders c.self.inside.holders c.self.inside.waits c.self.inside.next c.self.view_is c.self.invariant c.requires.next) _ _ _ _ refl refl refl c.in_default-insert.ensures.err).1, refl)
 
 pub remove-requires : goal.remove-requires
 remove-requires g c = is_there _ _ (sym c.get.ensures ∙ ap option_copied c.in-Some.is)

@@ -1,13 +1,13 @@
-use Rattle.std.proofs.Common.{refl, sym, ap, ◌∙◌}
+use Rattle.std.proofs.Common.{None, Some, refl, sym, ap, ◌∙◌}
 use Rattle.std.specs.Option.{option_copied_mut}
 use Rattle.mea_base.proofs.Maps.{get-there, is_there}
 use Rattle.mea_meet.proofs.CountSites.{site, waits_point, over_there}
-use Rattle.mea_meet.proofs.CountCalls.{wait_unknown, wait_known, poll_given, unpolled, waits_on, lender_some, ready_some, ready_room, ready_lent, readied}
+use Rattle.mea_meet.proofs.CountCalls.{wait_told, poll_given, unpolled, waits_on, lender_some, ready_some, ready_room, ready_lent, readied}
 use Rattle.mea_family.proofs.Refusals.{unknown, lacking}
 use Rattle.mea_meet.proofs.count_part.CountPart.poll.Goals as goal
 
 pub returns-in_default : goal.returns-in_default
-returns-in_default g c = (unknown _ _ (wait_unknown (site c.self.inside.points c.self.inside.senders c.self.inside.holders c.self.inside.waits c.self.inside.next c.self.view_is c.self.invariant c.requires.next) c.args.f (sym c.get_mut.ensures.value ∙ ap option_copied_mut c.in_default.is)), c.self.view_is, refl)
+returns-in_default g c = (unknown _ _ (wait_told (site c.self.inside.points c.self.inside.senders c.self.inside.holders c.self.inside.waits c.self.inside.next c.self.view_is c.self.invariant c.requires.next) c.args.f None (sym c.get_mut.ensures.value ∙ ap option_copied_mut c.in_default.is)), c.self.view_is, refl)
 
 pub at_mut-entry-requires : goal.at_mut-entry-requires
 at_mut-entry-requires g c = waits_point (site c.self.inside.points c.self.inside.senders c.self.inside.holders c.self.inside.waits c.self.inside.next c.self.view_is c.self.invariant c.requires.next) c.args.f c.in-Some.future.now (sym c.get_mut.ensures.value ∙ ap option_copied_mut c.in-Some.is)
@@ -19,7 +19,7 @@ pub invariant_of-self-in-Err : goal.invariant_of-self-in-Err
 invariant_of-self-in-Err g c = (unpolled (site c.self.inside.points c.self.inside.senders c.self.inside.holders c.self.inside.waits c.self.inside.next c.self.view_is c.self.invariant c.requires.next) c.args.f c.in-Some.future.now c.at_mut-entry.result.now (sym c.get_mut.ensures.value ∙ ap option_copied_mut c.in-Some.is) c.at_mut-entry.ensures.value c.poll.new.self c.poll.new.wait c.in-Err.ensures.err.0 c.in-Err.ensures.err.1).0
 
 pub returns-in-Err : goal.returns-in-Err
-returns-in-Err g c = (lacking _ _ (wait_known (site c.self.inside.points c.self.inside.senders c.self.inside.holders c.self.inside.waits c.self.inside.next c.self.view_is c.self.invariant c.requires.next) c.args.f c.in-Some.future.now (sym c.get_mut.ensures.value ∙ ap option_copied_mut c.in-Some.is)) (λ none. none), (unpolled (site c.self.inside.points c.self.inside.senders c.self.inside.holders c.self.inside.waits c.self.inside.next c.self.view_is c.self.invariant c.requires.next) c.args.f c.in-Some.future.now c.at_mut-entry.result.now (sym c.get_mut.ensures.value ∙ ap option_copied_mut c.in-Some.is) c.at_mut-entry.ensures.value c.poll.new.self c.poll.new.wait c.in-Err.ensures.err.0 c.in-Err.ensures.err.1).1, c.in-Err.ensures.err.2)
+returns-in-Err g c = (lacking _ _ (wait_told (site c.self.inside.points c.self.inside.senders c.self.inside.holders c.self.inside.waits c.self.inside.next c.self.view_is c.self.invariant c.requires.next) c.args.f (Some c.in-Some.future.now) (sym c.get_mut.ensures.value ∙ ap option_copied_mut c.in-Some.is)) (λ none. none), (unpolled (site c.self.inside.points c.self.inside.senders c.self.inside.holders c.self.inside.waits c.self.inside.next c.self.view_is c.self.invariant c.requires.next) c.args.f c.in-Some.future.now c.at_mut-entry.result.now (sym c.get_mut.ensures.value ∙ ap option_copied_mut c.in-Some.is) c.at_mut-entry.ensures.value c.poll.new.self c.poll.new.wait c.in-Err.ensures.err.0 c.in-Err.ensures.err.1).1, c.in-Err.ensures.err.2)
 
 pub invariant_of-self-in-Ok-Pending : goal.invariant_of-self-in-Ok-Pending
 invariant_of-self-in-Ok-Pending g c = let polled = rw c.in-Ok-Pending.field-0-is at c.in-Ok-Pending.ensures.polls in (waits_on (site c.self.inside.points c.self.inside.senders c.self.inside.holders c.self.inside.waits c.self.inside.next c.self.view_is c.self.invariant c.requires.next) c.args.f c.in-Some.future.now c.at_mut-entry.result.now (sym c.get_mut.ensures.value ∙ ap option_copied_mut c.in-Some.is) c.at_mut-entry.ensures.value c.args.waker c.poll.new.self c.poll.new.wait c.args.ready.now c.poll.new.ready polled).0

@@ -1,13 +1,13 @@
-use Rattle.std.proofs.Common.{refl, sym, ap, ◌∙◌}
+use Rattle.std.proofs.Common.{None, refl, sym, ap, ◌∙◌}
 use Rattle.std.specs.Option.{option_copied}
 use Rattle.mea_meet.specs.CountCores.{NamedPoint}
 use Rattle.mea_meet.proofs.CountSites.{site, holders_point}
-use Rattle.mea_meet.proofs.CountCalls.{holder_unknown, tried}
+use Rattle.mea_meet.proofs.CountCalls.{holder_told, tried}
 use Rattle.mea_family.proofs.Refusals.{unknown}
 use Rattle.mea_meet.proofs.count_part.CountPart.try_wait.Goals as goal
 
 pub returns-in_default : goal.returns-in_default
-returns-in_default g c = (unknown _ _ (holder_unknown (site c.self.inside.points c.self.inside.senders c.self.inside.holders c.self.inside.waits c.self.inside.next c.self.view_is c.self.invariant c.requires) c.args.k (sym c.get.ensures ∙ ap option_copied c.in_default.is)), refl)
+returns-in_default g c = (unknown _ _ (holder_told (site c.self.inside.points c.self.inside.senders c.self.inside.holders c.self.inside.waits c.self.inside.next c.self.view_is c.self.invariant c.requires) c.args.k None (sym c.get.ensures ∙ ap option_copied c.in_default.is)), refl)
 
 pub at-requires : goal.at-requires
 at-requires g c = holders_point (site c.self.inside.points c.self.inside.senders c.self.inside.holders c.self.inside.waits c.self.inside.next c.self.view_is c.self.invariant c.requires) c.args.k c.in-Some.holder.now (sym c.get.ensures ∙ ap option_copied c.in-Some.is)
