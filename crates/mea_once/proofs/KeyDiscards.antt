@@ -1,12 +1,13 @@
 -- a key is taken out; a future of no round is settled
-use Rattle.std.proofs.Common.{◌≡◌, ℕ, ◌-◌, ◌≤◌, ◌==◌, ◌++◌, ◌⊎◌, inl, inr, Bool, true, false, cond, length, List, [], ◌∷◌, Option, Some, None, option_map, nat_eq, refl, ap, sym, subst, ◌∙◌, arith, append-nil}
-use Rattle.std.proofs.lemmas.Bool.{eq-eqb, ne_eqb, cases_eq}
+use Rattle.std.proofs.Common.{◌≡◌, ℕ, ◌-◌, ◌≤◌, ◌==◌, ◌++◌, inl, inr, Bool, true, false, cond, length, List, [], ◌∷◌, Option, Some, None, option_map, nat_eq, refl, ap, sym, subst, ◌∙◌, arith, append-nil}
+use Rattle.std.proofs.lemmas.Bool.{eq-eqb, ne_eqb}
 use Rattle.std.specs.FinMap.{get, insert, remove}
 use Rattle.mea_family.specs.declared.answer.Answer.TheVariants as answer_is
 use Rattle.mea_base.specs.Ready.{Waking}
 use Rattle.mea_base.proofs.Maps.{inside, get-there, get-other, get-gone, get-removed_other, total-has}
 use Rattle.mea_base.proofs.NamedMaps.{same_named, get-seen}
 use Rattle.mea_base.proofs.Totals.{total-same}
+use Rattle.mea_base.proofs.Tests.{by_name}
 use Rattle.mea_by_name.specs.ByName.{Names}
 use Rattle.mea_by_name.specs.declared.named_waker.NamedWaker.{NamedWaker}
 use Rattle.mea_by_name.proofs.Own.{gone_none, insert_same, len-over}
@@ -23,13 +24,12 @@ use Rattle.mea_once.specs.declared.round.Round.{Round}
 use Rattle.mea_once.specs.Entries.{of_running, waking, keeps}
 use Rattle.mea_once.specs.KeyCores.{NamedKeyed}
 use Rattle.mea_once.specs.KeyEntries.{KeptTable, stopped_waker}
-use Rattle.mea_once.specs.KeyParts.{value_of, kept_cell, round_in, round_seen, table_seen, key_future_seen, IsRound, HasRound, IsKey, Absent, Computing, Valued, CallFits, waiting_of, callers_of, AreTogether, table_keeps, StandsTable, SteppedTable}
+use Rattle.mea_once.specs.KeyParts.{kept_cell, round_in, round_seen, table_seen, key_future_seen, IsRound, IsKey, Absent, Computing, Valued, CallFits, waiting_of, callers_of, AreTogether, table_keeps, StandsTable, SteppedTable}
 use Rattle.mea_once.proofs.KeySteps.{Entry, number, by_none}
-use Rattle.mea_once.proofs.KeyTables.{get_values, value_at}
+use Rattle.mea_once.proofs.KeyTables.{get_values, value_at, values_as, key_as}
 use Rattle.mea_once.proofs.KeyEvents.{its_call, its_round, its_there, its_entry, starts_there}
 use Rattle.mea_once.proofs.KeyResults.{same_seen, same_keeps, same_all, same_together}
-use Rattle.mea_once.proofs.KeyCalls.{by_some}
-use Rattle.mea_once.proofs.KeyOthers.{settled_future}
+use Rattle.mea_once.proofs.KeyCalls.{by_some, settled_future}
 use Rattle.mea_once.specs.Parts as parts
 
 -- ---- the waker that is kept
@@ -108,24 +108,19 @@ module _ (once : Bool) (e : KeptTable) (fs : Names KeyFuture) (kept : AreTogethe
     other_number j apart = numbers j ∙ ap (λ b. cond b None (number e.keyed j)) (ne_eqb k j apart)
 
     was_number : (j q : ℕ) → number k' j ≡ Some q → (number e.keyed j ≡ Some q) × (k ≡ j → ⊥)
-    was_number j q is = elim (cases_eq k j) as (λ x. (number e.keyed j ≡ Some q) × (k ≡ j → ⊥)) [
-      | inl same ↦ absurd (let none : number k' j ≡ None = ap (number k') (sym same) ∙ own_number in cc)
-      | inr apart ↦ (sym (other_number j apart) ∙ is, apart)
-    ]
+    was_number j q is = by_name k j (λ same. absurd (let none : number k' j ≡ None = ap (number k') (sym same) ∙ own_number in cc)) (λ apart. (sym (other_number j apart) ∙ is, apart))
 
     -- the entry of a round
     round_there : (n : ℕ) (r : Round) (is : get e.rounds n ≡ Some r) → (s : Entry) × (entry_at k'.table r.entry ≡ Some s) × (s.cell ≡ (kept.rounds n r is).shown.cell) × (s.callers ≡ (kept.rounds n r is).shown.callers) × (s.listed ≡ true → (r.entry ≡ m → ⊥) × ((kept.rounds n r is).shown.listed ≡ true))
-    round_there n r is = at (cases_eq r.entry m)
+    round_there n r is = by_name r.entry m
+        (λ same.
+        let one : it.shown ≡ z = inside (sym it.there ∙ ap (entry_at e.keyed.table) same ∙ entry) in
+        let some : 1 ≤ z.callers = (let callers : z.callers ≡ r.callers = ap (λ (z : Entry). z.callers) (sym one) ∙ it.callers in let some = it.some in omega arith) in
+        (record z { listed = false }, ap (entry_at k'.table) same ∙ entries.changed ∙ unlisted_some z some, ap (λ (z : Entry). z.cell) (sym one), ap (λ (z : Entry). z.callers) (sym one), λ listed. absurd (cc)))
+        (λ apart. (it.shown, entries.others r.entry apart ∙ it.there, refl, refl, λ listed. (apart, listed)))
       where
         it : IsRound e fs n r
         it = kept.rounds n r is
-
-        at : (r.entry ≡ m) ⊎ (r.entry ≡ m → ⊥) → (s : Entry) × (entry_at k'.table r.entry ≡ Some s) × (s.cell ≡ it.shown.cell) × (s.callers ≡ it.shown.callers) × (s.listed ≡ true → (r.entry ≡ m → ⊥) × (it.shown.listed ≡ true))
-        at (inl same) =
-            let one : it.shown ≡ z = inside (sym it.there ∙ ap (entry_at e.keyed.table) same ∙ entry) in
-            let some : 1 ≤ z.callers = (let callers : z.callers ≡ r.callers = ap (λ (z : Entry). z.callers) (sym one) ∙ it.callers in let some = it.some in omega arith) in
-            (record z { listed = false }, ap (entry_at k'.table) same ∙ entries.changed ∙ unlisted_some z some, ap (λ (z : Entry). z.cell) (sym one), ap (λ (z : Entry). z.callers) (sym one), λ listed. absurd (cc))
-        at (inr apart) = (it.shown, entries.others r.entry apart ∙ it.there, refl, refl, λ listed. (apart, listed))
 
     round_same : (n : ℕ) (r : Round) (is : get e.rounds n ≡ Some r) → waiting_at (entry_at k'.table r.entry) ≡ waiting_at (entry_at e.keyed.table r.entry)
     round_same n r is = let it = round_there n r is in ap waiting_at it.1 ∙ (λ j. length (it.2 j).permit.queue) ∙ sym (ap waiting_at (kept.rounds n r is).there)
@@ -133,35 +128,24 @@ module _ (once : Bool) (e : KeptTable) (fs : Names KeyFuture) (kept : AreTogethe
     all_waiting : waiting_in k'.table.slots ≡ waiting_in e.keyed.table.slots
     all_waiting =
         let changed = waiting-changes e.keyed.table.slots k'.table.slots m (Some z) (unlisted z) entry entries in
-        let same : waiting_at (unlisted z) ≡ length z.cell.permit.queue = at (cases_eq z.callers 0) in
+        let same : waiting_at (unlisted z) ≡ length z.cell.permit.queue = by_name z.callers 0
+        (λ zero. ap (λ b. waiting_at (cond b None (Some (record z { listed = false })))) (eq-eqb z.callers 0 zero) ∙ sym (ap (λ (q : List _). length q) (alone zero)))
+        (λ some. ap (λ b. waiting_at (cond b None (Some (record z { listed = false })))) (ne_eqb z.callers 0 some)) in
         omega (arith, changed, same)
-      where
-        at : (z.callers ≡ 0) ⊎ (z.callers ≡ 0 → ⊥) → waiting_at (unlisted z) ≡ length z.cell.permit.queue
-        at (inl zero) = ap (λ b. waiting_at (cond b None (Some (record z { listed = false })))) (eq-eqb z.callers 0 zero) ∙ sym (ap (λ (q : List _). length q) (alone zero))
-        at (inr some) = ap (λ b. waiting_at (cond b None (Some (record z { listed = false })))) (ne_eqb z.callers 0 some)
 
     other_key : (j : ℕ) → (k ≡ j → ⊥) → IsKey once e j → IsKey once without j
-    other_key j apart (Absent none current) = Absent (other_number j apart ∙ none) (get-removed_other e.current k j apart ∙ current)
-    other_key j apart (Computing q r s num_j current is key entry_j empty listed) =
-        Computing q r s (other_number j apart ∙ num_j) (get-removed_other e.current k j apart ∙ current) is key (entries.others r.entry (λ same. apart (kept.apart k j m num (num_j ∙ ap (λ q. Some q) same))) ∙ entry_j) empty listed
-    other_key j apart (Valued q v s num_j current entry_j full listed map_only round) =
-        Valued q v s (other_number j apart ∙ num_j) (get-removed_other e.current k j apart ∙ current) (entries.others q (λ same. apart (kept.apart k j m num (num_j ∙ ap (λ q. Some q) same))) ∙ entry_j) full listed map_only (at round)
-      where
-        at : HasRound e j q s → HasRound without j q s
-        at (inl nobody) = inl nobody
-        at (inr it) = inr it
+    other_key j apart = key_as once e without j (other_number j apart) (get-removed_other e.current k j apart) (λ q num_j. entries.others q (λ same. apart (kept.apart k j m num (num_j ∙ ap (λ q. Some q) same)))) (λ q r is key num_j. is)
 
     value_other : (j : ℕ) → (k ≡ j → ⊥) → get (table_seen without).values j ≡ get (table_seen e).values j
-    value_other j apart = get_values k'.table k'.table.pairs j ∙ ap (value_at k'.table) (other_number j apart) ∙ at (number e.keyed j) refl ∙ sym (get_values e.keyed.table e.keyed.table.pairs j)
-      where
-        at : (o : Option ℕ) → number e.keyed j ≡ o → value_at k'.table o ≡ value_at e.keyed.table o
-        at None is = refl
-        at (Some q) is = ap value_of (entries.others q (λ same. apart (kept.apart k j m num (is ∙ ap (λ q. Some q) same))))
+    value_other j apart = get_values k'.table k'.table.pairs j ∙ ap (value_at k'.table) (other_number j apart) ∙ values_as e.keyed.table k'.table (number e.keyed j) (λ q is. entries.others q (λ same. apart (kept.apart k j m num (is ∙ ap (λ q. Some q) same))))
+        ∙ sym (get_values e.keyed.table e.keyed.table.pairs j)
 
     some_so : Discarded
     some_so = record {
       seen = λ j. record {
-        values = same_named (table_seen without).values (remove (table_seen e).values k) (λ i. value_by i (cases_eq k i)) j;
+        values = same_named (table_seen without).values (remove (table_seen e).values k) (λ i. by_name k i
+            (λ same. subst (λ i. get (table_seen without).values i ≡ get (remove (table_seen e).values k) i) same (get_values k'.table k'.table.pairs k ∙ ap (value_at k'.table) own_number ∙ sym (get-gone (table_seen e).values k)))
+            (λ apart. value_other i apart ∙ sym (get-removed_other (table_seen e).values k i apart))) j;
         current = remove e.current k;
         rounds = same_named (table_seen without).rounds (table_seen e).rounds round_by j;
       };
@@ -177,10 +161,7 @@ module _ (once : Bool) (e : KeptTable) (fs : Names KeyFuture) (kept : AreTogethe
               other_number r.key (λ same. had.0 (inside (sym old ∙ ap (number e.keyed) (sym same) ∙ num))) ∙ old;
         };
         one = kept.one;
-        keys = λ j. elim (cases_eq k j) as (λ x. IsKey once without j) [
-          | inl same ↦ subst (IsKey once without) same (Absent own_number (get-gone e.current k))
-          | inr apart ↦ other_key j apart (kept.keys j)
-        ];
+        keys = λ j. by_name k j (λ same. subst (IsKey once without) same (Absent own_number (get-gone e.current k))) (λ apart. other_key j apart (kept.keys j));
         apart = λ i j q a b. kept.apart i j q (was_number i q a).0 (was_number j q b).0;
         calls = λ g y is. call_by y.round y (kept.calls g y is);
         futures = kept.futures;
@@ -189,10 +170,6 @@ module _ (once : Bool) (e : KeptTable) (fs : Names KeyFuture) (kept : AreTogethe
       keeps = let same = all_waiting in omega (arith, same);
     }
       where
-        value_by : (i : ℕ) → (k ≡ i) ⊎ (k ≡ i → ⊥) → get (table_seen without).values i ≡ get (remove (table_seen e).values k) i
-        value_by i (inl same) = subst (λ i. get (table_seen without).values i ≡ get (remove (table_seen e).values k) i) same (get_values k'.table k'.table.pairs k ∙ ap (value_at k'.table) own_number ∙ sym (get-gone (table_seen e).values k))
-        value_by i (inr apart) = value_other i apart ∙ sym (get-removed_other (table_seen e).values k i apart)
-
         round_at : (q : ℕ) (o : Option Round) → get e.rounds q ≡ o → option_map (round_seen k'.table) o ≡ option_map (round_seen e.keyed.table) o
         round_at q None is = refl
         round_at q (Some r) is = let it = round_there q r is in ap (λ o. Some (round_in o r)) it.1 ∙ (λ j. Some (parts.cell_seen (kept_cell (it.2 j) r))) ∙ sym (ap (λ o. Some (round_in o r)) (kept.rounds q r is).there)

@@ -5,7 +5,7 @@ use Rattle.std.proofs.lemmas.Bool.{ne_eqb}
 use Rattle.std.specs.FinMap.{get, insert, empty, get-empty}
 use Rattle.std.specs.Ordering.{nat_cmp}
 use Rattle.mea_base.specs.Totals.{weight}
-use Rattle.mea_base.proofs.Maps.{inside, value_in, get-there, get-other}
+use Rattle.mea_base.proofs.Maps.{inside, value_in, get-there, get-other, none_if}
 use Rattle.mea_base.proofs.Totals.{total-empty}
 use Rattle.mea_by_name.specs.ByName.{Names, seen, own}
 use Rattle.mea_by_name.specs.declared.named_waker.NamedWaker.{NamedWaker}
@@ -55,11 +55,7 @@ module _ (once : Bool) (e : KeptTable) (f : ℕ) (x : KeyFuture) (i : ℕ) (s : 
 
   -- the number of this event is no round yet
   pub no_round : get e.rounds i ≡ None
-  no_round = at (get e.rounds i) refl
-    where
-      at : (o : Option Round) → get e.rounds i ≡ o → get e.rounds i ≡ None
-      at None is = is
-      at (Some r) is = absurd (let below = s.low i r is in omega arith)
+  no_round = none_if (get e.rounds i) (λ r is. absurd (let below = s.low i r is in omega arith))
 
   -- ---- it is a caller of a round
   module _ (n : ℕ) (of : x.round ≡ Some n) where
@@ -158,14 +154,10 @@ module _ (once : Bool) (e : KeptTable) (f : ℕ) (x : KeyFuture) (i : ℕ) (s : 
     new_call = its_call None of
 
     pub not_of : (n : ℕ) → get (callers_of n fs) f ≡ None
-    not_of n = seen-none as_caller (own of_round (n + 1) fs) f (at (get (own of_round (n + 1) fs) f) refl)
-      where
-        at : (o : Option KeyFuture) → get (own of_round (n + 1) fs) f ≡ o → get (own of_round (n + 1) fs) f ≡ None
-        at None is = is
-        at (Some y) is =
-            let had = own-had of_round (n + 1) fs f y is in
-            let same : y ≡ x = inside (sym had.0 ∙ s.there) in
-            absurd (let slot : slot_of x.round ≡ n + 1 = ap of_round (sym same) ∙ had.1 in let zero : slot_of x.round ≡ 0 = ap slot_of of in omega arith)
+    not_of n = seen-none as_caller (own of_round (n + 1) fs) f (none_if (get (own of_round (n + 1) fs) f) (λ y is.
+        let had = own-had of_round (n + 1) fs f y is in
+        let same : y ≡ x = inside (sym had.0 ∙ s.there) in
+        absurd (let slot : slot_of x.round ≡ n + 1 = ap of_round (sym same) ∙ had.1 in let zero : slot_of x.round ≡ 0 = ap slot_of of in omega arith)))
 
     -- it is one more caller of a cell
     begun_kept : (n : ℕ) (K : KeptCell) → AreKept false K (callers_of n fs) → K.alone ≡ 0 → K.cell.waits.wakers ≡ [] → AreKept false (record K { futures = K.futures + 1; alone = K.alone + 0 }) (callers_of n (insert fs f (at_round x n)))

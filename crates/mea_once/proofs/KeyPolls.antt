@@ -20,7 +20,7 @@ use Rattle.mea_once_core.specs.declared.key_call.KeyStage.TheVariants as key_sta
 use Rattle.mea_once_core.specs.declared.cell_stage.CellStage.TheVariants.{Done}
 use Rattle.mea_once_model.specs.declared.errand.Errand.TheVariants.{Computes}
 use Rattle.mea_once_model.specs.Cells as cells
-use Rattle.mea_once_model.specs.Cells.{Cell, CellFuture, Step}
+use Rattle.mea_once_model.specs.Cells.{Cell, CellFuture, Step, turned_to}
 use Rattle.mea_once_model.specs.Tables as tables
 use Rattle.mea_once_model.specs.Tables.{KeyStep}
 use Rattle.mea_once.specs.declared.key_future.KeyFuture.{KeyFuture}
@@ -28,19 +28,18 @@ use Rattle.mea_once.specs.declared.round.Round.{Round}
 use Rattle.mea_once.specs.declared.scripted.Scripted.{Scripted}
 use Rattle.mea_once.specs.declared.poll_reply.PollReply.{PollReply}
 use Rattle.mea_once.specs.declared.future_entry.FutureEntry.{FutureEntry}
-use Rattle.mea_once.specs.Entries.{of_running, runs}
+use Rattle.mea_once.specs.Entries.{of_running, runs, left_by}
 use Rattle.mea_once.specs.KeyCores.{NamedKeyed}
 use Rattle.mea_once.specs.KeyEntries.{KeptTable, FollowsKey, closed, left_round, one_future_less, parted, stayed, entry_in, running_in, current_without}
 use Rattle.mea_once.specs.Parts as parts
 use Rattle.mea_once.specs.Parts.{AreKept, Stands, future_seen}
-use Rattle.mea_once.specs.KeyParts.{kept_cell, table_seen, key_future_seen, as_caller, of_round, callers_of, others, left_by, StandsTable}
+use Rattle.mea_once.specs.KeyParts.{kept_cell, table_seen, key_future_seen, as_caller, of_round, callers_of, others, StandsTable}
 use Rattle.mea_once.proofs.OneCell.{woken_in}
-use Rattle.mea_once.proofs.Steps.{Makes}
+use Rattle.mea_once.proofs.Steps.{Makes, at_rest}
 use Rattle.mea_once.proofs.KeyCells.{cell_of, caller_at, named, Polled, polled_cell}
 use Rattle.mea_once.proofs.KeySteps.{Entry, with_cell, Becomes, CorePolled, Asked}
 use Rattle.mea_once.proofs.KeyTables.{Elsewhere, Changed, callers_turned}
-use Rattle.mea_once.proofs.KeyStarts.{Start, at_round, entered, rests_kept, nobody_keeps, stays_changed, stays_seen, stays_closed, left_queue, count_callers}
-use Rattle.mea_once.proofs.KeyGoings.{empty_changed, empty_seen, full_changed, full_seen}
+use Rattle.mea_once.proofs.KeyStarts.{Start, at_round, entered, nobody_keeps, stays_changed, stays_seen, stays_closed, left_queue, count_callers, empty_changed, empty_seen, full_changed, full_seen}
 use Rattle.mea_once.proofs.KeyResults.{Did}
 
 -- no waker is ready
@@ -81,14 +80,14 @@ module _ (once : Bool) (e : KeptTable) (f w : ℕ) (x : KeyFuture) (i : ℕ) (s 
   }
 
   -- how many others there are, once it is gone
-  pub others_left : (c : CoreCell ℕ NamedWaker) (run : Option NamedWaker) → AreKept false (cell_of c run (r.callers - 1)) (parts.turned_to members f None) → others s.fs f n ≡ r.callers - 1
+  pub others_left : (c : CoreCell ℕ NamedWaker) (run : Option NamedWaker) → AreKept false (cell_of c run (r.callers - 1)) (turned_to members f None) → others s.fs f n ≡ r.callers - 1
   others_left c run good = count_callers n (remove s.fs f) ∙ ap (λ m. len m) (callers_turned s.fs f n x s.there (at_round x n) refl None tt) ∙ sym good.tied.futures
 
   -- where it was the last, nobody keeps a waker
-  pub runner_left : (c : CoreCell ℕ NamedWaker) (run : Option NamedWaker) → AreKept false (cell_of c run (r.callers - 1)) (parts.turned_to members f None) → (rounds1 : Names Round)
+  pub runner_left : (c : CoreCell ℕ NamedWaker) (run : Option NamedWaker) → AreKept false (cell_of c run (r.callers - 1)) (turned_to members f None) → (rounds1 : Names Round)
       → weight (λ n (r : Round). of_running r.running) n (get (cond (r.callers == 1) (remove rounds1 n) (insert rounds1 n (record r { running = run; callers = r.callers - 1 }))) n) ≡ of_running run
   runner_left c run good rounds1 = elim (r.callers == 1) as (λ b. (r.callers == 1) ≡ b → weight (λ n (r : Round). of_running r.running) n (get (cond b (remove rounds1 n) (insert rounds1 n (record r { running = run; callers = r.callers - 1 }))) n) ≡ of_running run) [
-    | true ↦ λ is. ap (weight (λ n (r : Round). of_running r.running) n) (get-gone rounds1 n) ∙ sym (ap of_running (nobody_keeps (cell_of c run (r.callers - 1)) (parts.turned_to members f None) good (let one = eqb-true r.callers 1 is in omega arith)))
+    | true ↦ λ is. ap (weight (λ n (r : Round). of_running r.running) n) (get-gone rounds1 n) ∙ sym (ap of_running (nobody_keeps (cell_of c run (r.callers - 1)) (turned_to members f None) good (let one = eqb-true r.callers 1 is in omega arith)))
     | false ↦ λ is. ap (weight (λ n (r : Round). of_running r.running) n) (get-there rounds1 n (record r { running = run; callers = r.callers - 1 }))
   ] refl
 
@@ -157,9 +156,9 @@ module _ (once : Bool) (e : KeptTable) (f w : ℕ) (x : KeyFuture) (i : ℕ) (s 
       few = omega arith;
     }
       where
-        good : AreKept false (cell_of (rested c) run r.callers) (parts.turned_to members f (Some (as_caller (record x2 { round = Some n }))))
-        good = subst (λ (z : FutureEntry). AreKept false (cell_of (rested c) run r.callers) (parts.turned_to members f (Some z))) (λ j. record { cell = x.table; errand = Computes (sym init j).outcome; stage = call'.stage; wait = None })
-            (rests_kept (kept_cell se.cell r) members i f x.table 1 answer_is.Pending (Some (caller_at x.table x.call.call.init.outcome call'.stage)) cell_step c run r.callers makes)
+        good : AreKept false (cell_of (rested c) run r.callers) (turned_to members f (Some (as_caller (record x2 { round = Some n }))))
+        good = subst (λ (z : FutureEntry). AreKept false (cell_of (rested c) run r.callers) (turned_to members f (Some z))) (λ j. record { cell = x.table; errand = Computes (sym init j).outcome; stage = call'.stage; wait = None })
+            (at_rest false (cell_of c run r.callers) _ makes.sound makes.tied)
 
         rounds : Elsewhere e.rounds (insert rounds1 n (stayed r x2 k)) n
         rounds q apart = get-other rounds1 n q (stayed r x2 k) apart ∙ elsewhere q apart
@@ -168,7 +167,7 @@ module _ (once : Bool) (e : KeptTable) (f w : ℕ) (x : KeyFuture) (i : ℕ) (s 
         here = get-there rounds1 n (stayed r x2 k) ∙ (λ j. Some (record r { entry = entry_in (stage j) r.entry; running = run }))
 
     abbrev left_good : CoreCell ℕ NamedWaker → Type 0
-    left_good c = AreKept false (cell_of (rested c) r.running (r.callers - 1)) (parts.turned_to members f None)
+    left_good c = AreKept false (cell_of (rested c) r.running (r.callers - 1)) (turned_to members f None)
 
     -- the table that is left where it is gone
     abbrev left_table : Names ℕ → KeptTable
@@ -178,7 +177,7 @@ module _ (once : Bool) (e : KeptTable) (f w : ℕ) (x : KeyFuture) (i : ℕ) (s 
         → waiting_at o ≤ length c.permit.queue → Changed once e s.fs f n m x.key (left_table now) None → table_seen (left_table now) ≡ tables.left x.key n (r.callers - 1) (tables.closed once x.key n c.value (record (entered e cur) { rounds = insert (table_seen e).rounds n (parts.cell_seen (cell_of c r.running (r.callers - 1))) }))
         → Did once e s.fs i f x n m r None (left_table now) run k'.wakes 1 (key_step cell_step) answer
     goes c answer o p now done makes becomes few changed seen_so =
-        let good : left_good c = rests_kept (kept_cell se.cell r) members i f x.table 1 answer None cell_step c r.running (r.callers - 1) makes in
+        let good : left_good c = at_rest false (cell_of c r.running (r.callers - 1)) (turned_to members f None) makes.sound makes.tied in
         let same : run ≡ r.running = ap (λ t. running_in t r.running k) done in
         rw same (record {
           changed = changed;
@@ -195,7 +194,7 @@ module _ (once : Bool) (e : KeptTable) (f w : ℕ) (x : KeyFuture) (i : ℕ) (s 
     fails : (z : ℕ) (c : CoreCell ℕ NamedWaker) → call'.stage ≡ Done → se.cell.value ≡ None → c.value ≡ None → Makes false (kept_cell se.cell r) members i f x.table 1 (answer_is.Failure z) None cell_step (cell_of c r.running (r.callers - 1))
         → Becomes e.keyed k' m (without_caller (with_cell se c)) x.key (cond (se.listed && is_last (with_cell se c)) None num) c.permit.wakes → Did once e s.fs i f x n m r None (left_table (cond (r.callers == 1) (current_without cur x.key n) cur)) run k'.wakes 1 (key_step cell_step) (answer_is.Failure z)
     fails z c done was_empty empty makes becomes =
-        let good : left_good c = rests_kept (kept_cell se.cell r) members i f x.table 1 (answer_is.Failure z) None cell_step c r.running (r.callers - 1) makes in
+        let good : left_good c = at_rest false (cell_of c r.running (r.callers - 1)) (turned_to members f None) makes.sound makes.tied in
         let now : Names ℕ = cond (r.callers == 1) (current_without cur x.key n) cur in
         goes c (answer_is.Failure z) (without_caller (with_cell se c)) (cond (se.listed && is_last (with_cell se c)) None num) now done makes becomes (left_queue (with_cell se c))
         (empty_changed once e s.fs s.kept i f x s.there n m r se cur num start (left_table now) c r.running good refl (rounds_left r.running rounds1 elsewhere) (here_left r.running rounds1) refl was_empty empty becomes.entries becomes.numbers refl)
@@ -205,7 +204,7 @@ module _ (once : Bool) (e : KeptTable) (f w : ℕ) (x : KeyFuture) (i : ℕ) (s 
         → Becomes e.keyed k' m (without_caller (record (with_cell se c) { listed = se.listed && not once })) x.key (cond (se.listed && once) None num) c.permit.wakes
         → Did once e s.fs i f x n m r None (left_table (cond (r.callers == 1) (current_without (current_without cur x.key n) x.key n) (current_without cur x.key n))) run k'.wakes 1 (key_step cell_step) (answer_is.Value v)
     gives v c done full either makes becomes =
-        let good : left_good c = rests_kept (kept_cell se.cell r) members i f x.table 1 (answer_is.Value v) None cell_step c r.running (r.callers - 1) makes in
+        let good : left_good c = at_rest false (cell_of c r.running (r.callers - 1)) (turned_to members f None) makes.sound makes.tied in
         let now : Names ℕ = cond (r.callers == 1) (current_without (current_without cur x.key n) x.key n) (current_without cur x.key n) in
         goes c (answer_is.Value v) (without_caller (record (with_cell se c) { listed = se.listed && not once })) (cond (se.listed && once) None num) now done makes becomes (left_queue (record (with_cell se c) { listed = se.listed && not once }))
         (full_changed once e s.fs s.kept i f x s.there n m r se cur num start (left_table now) c r.running good refl (rounds_left r.running rounds1 elsewhere) (here_left r.running rounds1) refl v full either becomes.entries becomes.numbers refl)

@@ -1,12 +1,12 @@
 -- what an event on a future of a map or a group leaves, as the model says
-use Rattle.std.proofs.Common.{◌≡◌, ℕ, ◌+◌, ◌<◌, ◌≤◌, ◌++◌, inl, inr, Bool, false, length, List, Option, Some, None, option_map, nat_eq, refl, ap, sym, subst, ◌∙◌, arith}
-use Rattle.std.proofs.lemmas.Bool.{cases_eq}
+use Rattle.std.proofs.Common.{◌≡◌, ℕ, ◌+◌, ◌≤◌, ◌++◌, Bool, false, length, List, Option, Some, None, option_map, nat_eq, refl, ap, sym, subst, ◌∙◌, arith}
 use Rattle.std.specs.FinMap.{get, len}
 use Rattle.mea_family.specs.declared.answer.Answer.{Answer}
 use Rattle.mea_family.specs.Family.{Outcome}
 use Rattle.mea_base.specs.Ready.{Waking}
 use Rattle.mea_base.specs.Totals.{total, weight}
 use Rattle.mea_base.proofs.NamedMaps.{same_named, get-seen}
+use Rattle.mea_base.proofs.Tests.{by_name}
 use Rattle.mea_by_name.specs.ByName.{Names, seen}
 use Rattle.mea_by_name.specs.declared.named_waker.NamedWaker.{NamedWaker}
 use Rattle.mea_once_core.specs.Table.{entry_at}
@@ -18,11 +18,12 @@ use Rattle.mea_once.specs.declared.key_future.KeyFuture.{KeyFuture}
 use Rattle.mea_once.specs.declared.round.Round.{Round}
 use Rattle.mea_once.specs.Entries.{of_running}
 use Rattle.mea_once.specs.KeyEntries.{KeptTable}
+use Rattle.mea_once.specs.PartForm.{IsOf}
 use Rattle.mea_once.specs.Parts.{AreKept}
-use Rattle.mea_once.specs.KeyParts.{value_of, kept_cell, round_in, round_seen, table_seen, key_future_seen, as_caller, slot_of, of_round, HasRound, IsKey, Absent, Computing, Valued, CallFits, waiting_of, AreTogether, others, table_keeps, RoundsBelow, IsOfTable, StandsTable, SteppedTable}
+use Rattle.mea_once.specs.KeyParts.{kept_cell, round_in, round_seen, table_seen, key_future_seen, as_caller, slot_of, of_round, IsKey, CallFits, waiting_of, AreTogether, others, table_keeps, RoundsBelow, of_table, StandsTable, SteppedTable, callers_of}
 use Rattle.mea_once.proofs.OneCell.{woken_in}
 use Rattle.mea_once.proofs.KeySteps.{Entry, number}
-use Rattle.mea_once.proofs.KeyTables.{Elsewhere, Changed, changed_together, own_apart, get_values, value_at, total_elsewhere}
+use Rattle.mea_once.proofs.KeyTables.{Elsewhere, Changed, changed_together, own_apart, get_values, value_at, total_elsewhere, values_as, key_as}
 use Rattle.mea_once.proofs.KeyStarts.{Start}
 
 -- what was done at the round n of a future, before the wakers that are ready, ws, are handed on: the model's step; the round's
@@ -35,7 +36,7 @@ pub record Did (once : Bool) (e : KeptTable) (fs : Names KeyFuture) (i f : ℕ) 
   pub woken : woken_in ws ≡ step.wakes
   pub fit : waiting_at (entry_at new.keyed.table m) + of_running run + length ws ≤ waiting_at (entry_at e.keyed.table m) + of_running r.running + more
   pub runner : weight (λ n (r : Round). of_running r.running) n (get new.rounds n) ≡ of_running run
-  pub mine : IsOfTable p x.table
+  pub mine : IsOf of_table p x.table
   pub few : new.futures ≤ e.futures + 1
 
 module _ (once : Bool) (e : KeptTable) (f : ℕ) (x : KeyFuture) (i : ℕ) (s : StandsTable once e f x i) (n m : ℕ) (r : Round) (se : Entry) (cur : Names ℕ) (num : Option ℕ) (start : Start once e s.fs i f x n m r se cur num)
@@ -45,10 +46,7 @@ module _ (once : Bool) (e : KeptTable) (f : ℕ) (x : KeyFuture) (i : ℕ) (s : 
   did_fit = omega (arith, did.fit, ap waiting_at did.changed.entries.changed, waiting-changes e.keyed.table.slots new.keyed.table.slots m (entry_at e.keyed.table m) did.changed.entry refl did.changed.entries)
 
   below_after : RoundsBelow new (i + 1)
-  below_after q t is = elim (cases_eq n q) as (λ z. q < i + 1) [
-    | inl same ↦ let low = start.low in omega arith
-    | inr apart ↦ let low = s.low q t (sym (did.changed.rounds q apart) ∙ is) in omega arith
-  ]
+  below_after q t is = by_name n q (λ same. let low = start.low in omega arith) (λ apart. let low = s.low q t (sym (did.changed.rounds q apart) ∙ is) in omega arith)
 
   pub did_steps : (out : Tables → Outcome Tables) → ((h : Tables) → get h.tables x.table ≡ Some (table_seen e) → ((n : ℕ) → others_of h f x.table n ≡ others s.fs f n) → out h ≡ applied h f x.table step) → (before after : Waking ℕ)
       → after.wakers ≡ before.wakers ++ woken_in ws → after.registered + (waiting_in e.keyed.table.slots + of_running r.running) ≡ before.registered + (waiting_in new.keyed.table.slots + of_running run) → SteppedTable once e s.fs i f x.table p out answer new before after
@@ -72,15 +70,11 @@ module _ (once : Bool) (e : KeptTable) (f : ℕ) (x : KeyFuture) (i : ℕ) (s : 
 module _ (once : Bool) (e : KeptTable) (fs : Names KeyFuture) (kept : AreTogether once e fs) (e' : KeptTable) (same : IsSameKeyed nat_eq e.keyed e'.keyed) (current : e'.current ≡ e.current) (rounds : e'.rounds ≡ e.rounds) where
   pub same_seen : table_seen e' ≡ table_seen e
   same_seen = λ j. record {
-    values = same_named (table_seen e').values (table_seen e).values (λ k. get_values e'.keyed.table e'.keyed.table.pairs k ∙ ap (value_at e'.keyed.table) (same.0.1 k) ∙ value_same (number e.keyed k) ∙ sym (get_values e.keyed.table e.keyed.table.pairs k)) j;
+    values = same_named (table_seen e').values (table_seen e).values (λ k. get_values e'.keyed.table e'.keyed.table.pairs k ∙ ap (value_at e'.keyed.table) (same.0.1 k) ∙ values_as e.keyed.table e'.keyed.table (number e.keyed k) (λ q is. same.0.0 q) ∙ sym (get_values e.keyed.table e.keyed.table.pairs k)) j;
     current = current j;
     rounds = same_named (table_seen e').rounds (table_seen e).rounds (λ q. get-seen (λ k r. round_seen e'.keyed.table r) e'.rounds q ∙ ap (λ (m : Names Round). option_map (round_seen e'.keyed.table) (get m q)) rounds ∙ round_same (get e.rounds q) ∙ sym (get-seen (λ k r. round_seen e.keyed.table r) e.rounds q)) j;
   }
     where
-      value_same : (o : Option ℕ) → value_at e'.keyed.table o ≡ value_at e.keyed.table o
-      value_same None = refl
-      value_same (Some q) = ap value_of (same.0.0 q)
-
       round_same : (o : Option Round) → option_map (round_seen e'.keyed.table) o ≡ option_map (round_seen e.keyed.table) o
       round_same None = refl
       round_same (Some r) = ap (λ o. Some (round_in o r)) (same.0.0 r.entry)
@@ -96,50 +90,35 @@ module _ (once : Bool) (e : KeptTable) (fs : Names KeyFuture) (kept : AreTogethe
   same_call (Some n) y (r, there, stage, key, polled) = (r, ap (λ m. get m n) rounds ∙ there, stage, key, polled)
 
   pub same_key : (k : ℕ) → IsKey once e k → IsKey once e' k
-  same_key k (Absent none now) = Absent (same.0.1 k ∙ none) (ap (λ m. get m k) current ∙ now)
-  same_key k (Computing n r s num now is key entry empty listed) = Computing n r s (same.0.1 k ∙ num) (ap (λ m. get m k) current ∙ now) (ap (λ m. get m n) rounds ∙ is) key (same.0.0 r.entry ∙ entry) empty listed
-  same_key k (Valued m v s num now entry full listed map_only round) = Valued m v s (same.0.1 k ∙ num) (ap (λ m. get m k) current ∙ now) (same.0.0 m ∙ entry) full listed map_only (at round)
-    where
-      at : HasRound e k m s → HasRound e' k m s
-      at (inl nobody) = inl nobody
-      at (inr (q, r, is, at_m, key)) = inr (q, r, ap (λ m. get m q) rounds ∙ is, at_m, key)
+  same_key k = key_as once e e' k (same.0.1 k) (ap (λ m. get m k) current) (λ m num. same.0.0 m) (λ q r is key num. ap (λ m. get m q) rounds ∙ is)
 
-  pub same_all : e'.futures ≡ e.futures → AreTogether once e' fs
-  same_all futures = record {
+  -- with futures of which each round has the same callers
+  same_with : (fs' : Names KeyFuture) → ((n : ℕ) → callers_of n fs' ≡ callers_of n fs) → ((g : ℕ) (y : KeyFuture) → get fs' g ≡ Some y → CallFits y.round e' y) → e'.futures ≡ len fs' → AreTogether once e' fs'
+  same_with fs' callers calls futures = record {
     quiet = same.1 ∙ kept.quiet;
-    rounds = λ n r is. let it = kept.rounds n r (ap (λ m. get m n) (sym rounds) ∙ is) in record { shown = it.shown; there = same.0.0 r.entry ∙ it.there; callers = it.callers; some = it.some; kept = it.kept; listed = λ listed. same.0.1 r.key ∙ it.listed listed };
+    rounds = λ n r is. let it = kept.rounds n r (ap (λ m. get m n) (sym rounds) ∙ is) in record {
+      shown = it.shown;
+      there = same.0.0 r.entry ∙ it.there;
+      callers = it.callers;
+      some = it.some;
+      kept = subst (AreKept false (kept_cell it.shown.cell r)) (sym (callers n)) it.kept;
+      listed = λ listed. same.0.1 r.key ∙ it.listed listed;
+    };
     one = λ n m r s a b. kept.one n m r s (ap (λ m. get m n) (sym rounds) ∙ a) (ap (λ z. get z m) (sym rounds) ∙ b);
-    keys = λ j. same_key j (kept.keys j);
-    apart = λ i j m a b. kept.apart i j m (sym (same.0.1 i) ∙ a) (sym (same.0.1 j) ∙ b);
-    calls = λ g y is. same_call y.round y (kept.calls g y is);
-    futures = futures ∙ kept.futures;
+    keys = λ k. same_key k (kept.keys k);
+    apart = λ k j m a b. kept.apart k j m (sym (same.0.1 k) ∙ a) (sym (same.0.1 j) ∙ b);
+    calls = calls;
+    futures = futures;
     waiting = same-waiting e.keyed.table.slots e'.keyed.table.slots (λ m. ap waiting_at (same.0.0 m)) ∙ kept.waiting ∙ sym (ap (total (waiting_of e')) rounds ∙ ap (λ (f : ℕ → Round → ℕ). total f e.rounds) (λ j n r. waiting_at (same.0.0 r.entry j)));
   }
+
+  pub same_all : e'.futures ≡ e.futures → AreTogether once e' fs
+  same_all futures = same_with fs (λ n. refl) (λ g y is. same_call y.round y (kept.calls g y is)) (futures ∙ kept.futures)
 
   module _ (fs' : Names KeyFuture) (f : ℕ) (elsewhere : Elsewhere fs fs' f) (was : (y : KeyFuture) → get fs f ≡ Some y → y.round ≡ None) (now : (y : KeyFuture) → get fs' f ≡ Some y → (y.round ≡ None) × CallFits None e y) (futures : e'.futures ≡ len fs') where
     none_slot : (y : KeyFuture) (q : ℕ) → y.round ≡ None → of_round y ≡ q + 1 → ⊥
     none_slot y q none mine = absurd (let zero : of_round y ≡ 0 = ap slot_of none in omega arith)
 
     pub same_together : AreTogether once e' fs'
-    same_together = record {
-      quiet = same.1 ∙ kept.quiet;
-      rounds = λ n r is. let it = kept.rounds n r (ap (λ m. get m n) (sym rounds) ∙ is) in record {
-        shown = it.shown;
-        there = same.0.0 r.entry ∙ it.there;
-        callers = it.callers;
-        some = it.some;
-        kept = subst (AreKept false (kept_cell it.shown.cell r)) (sym (ap (seen as_caller) (own_apart of_round (n + 1) fs fs' f elsewhere (λ y is mine. none_slot y n (was y is) mine) (λ y is mine. none_slot y n (now y is).0 mine)))) it.kept;
-        listed = λ listed. same.0.1 r.key ∙ it.listed listed;
-      };
-      one = λ n m r s a b. kept.one n m r s (ap (λ m. get m n) (sym rounds) ∙ a) (ap (λ z. get z m) (sym rounds) ∙ b);
-      keys = λ k. same_key k (kept.keys k);
-      apart = λ k j m a b. kept.apart k j m (sym (same.0.1 k) ∙ a) (sym (same.0.1 j) ∙ b);
-      calls = λ g y is. elim (cases_eq f g) as (λ z. CallFits y.round e' y) [
-        | inl eq ↦ let it = now y (ap (get fs') eq ∙ is) in subst (λ o. CallFits o e' y) (sym it.0) it.1
-        | inr apart ↦ same_call y.round y (kept.calls g y (sym (elsewhere g apart) ∙ is))
-      ];
-      futures = futures;
-      waiting =
-          let slots = same-waiting e.keyed.table.slots e'.keyed.table.slots (λ m. ap waiting_at (same.0.0 m)) in
-          slots ∙ kept.waiting ∙ sym (ap (total (waiting_of e')) rounds ∙ ap (λ (f : ℕ → Round → ℕ). total f e.rounds) (λ j n r. waiting_at (same.0.0 r.entry j)));
-    }
+    same_together = same_with fs' (λ n. ap (seen as_caller) (own_apart of_round (n + 1) fs fs' f elsewhere (λ y is mine. none_slot y n (was y is) mine) (λ y is mine. none_slot y n (now y is).0 mine)))
+        (λ g y is. by_name f g (λ eq. let it = now y (ap (get fs') eq ∙ is) in subst (λ o. CallFits o e' y) (sym it.0) it.1) (λ apart. same_call y.round y (kept.calls g y (sym (elsewhere g apart) ∙ is)))) futures

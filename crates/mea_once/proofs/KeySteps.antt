@@ -7,7 +7,7 @@ use Rattle.mea_sets.specs.Poll.{Poll, Ready, Pending}
 use Rattle.mea_base.specs.declared.no_memory.NoMemory.{NoMemory}
 use Rattle.mea_base.proofs.Maps.{inside, value_in}
 use Rattle.mea_by_name.specs.declared.named_waker.NamedWaker.{NamedWaker}
-use Rattle.mea_once_core.specs.Permit.{IsNext, MayPoll}
+use Rattle.mea_once_core.specs.Permit.{MayPoll}
 use Rattle.mea_once_core.specs.Cell.{Cell as CoreCell, PollsInit, Finds, rested}
 use Rattle.mea_once_core.specs.Links.{Shown, Changes, Renumbers, SameNumbers}
 use Rattle.mea_once_core.specs.Table.{entry_at, number_of, is_last, fresh_entry, Sets, NumbersGo, Joins, Makes}
@@ -139,17 +139,13 @@ told_core once k b k' m key e p (Ready (Ok u)) c poll stage' only before (b2, gi
     )
 
 -- the next poll of a call finds a value there, or does not
+some_or : (v : Option ℕ) → IsSome v ⊎ (IsSome v → ⊥)
+some_or None = inr (λ some. absurd (cc))
+some_or (Some v) = inl refl
+
 finds_or : (c : CoreCell ℕ NamedWaker) → IsOnePermit c.permit → (stage : CellStage) → MayPoll c.permit stage → Finds c stage ⊎ (Finds c stage → ⊥)
-finds_or c one New may = at c.value refl
-  where
-    at : (v : Option ℕ) → c.value ≡ v → IsSome c.value ⊎ (IsSome c.value → ⊥)
-    at None is = inr (λ some. absurd (let one = value_in c.value some in let there = one.1 in cc))
-    at (Some v) is = inl (subst IsSome (sym is) refl)
-finds_or c one (Queued n) (inl next) = at c.value refl
-  where
-    at : (v : Option ℕ) → c.value ≡ v → (IsSome c.value × IsNext c.permit n) ⊎ (IsSome c.value × IsNext c.permit n → ⊥)
-    at None is = inr (λ both. absurd (let one = value_in c.value both.0 in let there = one.1 in cc))
-    at (Some v) is = inl (subst IsSome (sym is) refl, next)
+finds_or c one New may = some_or c.value
+finds_or c one (Queued n) (inl next) = elim (some_or c.value) [ inl some ↦ inl (some, next) | inr none ↦ inr (λ both. none both.0) ]
 finds_or c one (Queued n) (inr waits) = inr (λ both. absurd (let none = not_waiting c.permit one n 1 both.1 in let some = waits.1 in cc))
 finds_or c one Running may = inr (λ finds. finds)
 finds_or c one Done may = absurd may
@@ -223,8 +219,7 @@ module _ (once : Bool) (k k' : NamedKeyed) (key : ℕ) (call call' : InitCall Sc
   full_of : (c : CoreCell ℕ NamedWaker) (stage : CellStage) → Finds c stage → IsSome c.value
   full_of c New finds = finds
   full_of c (Queued n) finds = finds.0
-  full_of c Running finds = absurd finds
-  full_of c Done finds = absurd finds
+  full_of c _ finds = absurd finds
 
   asks_at : (b : NamedKeyed) (m : ℕ) (e : Entry) (p : Option ℕ) → IsOnly b m key → Becomes k b m (Some e) key p [] → AsksCell answers nat_eq once b m e call w (Ok poll) k' call' stage' → Asked m e p
   asks_at b m e p only before asks = asks_core b m e p only before asks.0 asks.1 asks.2 asks.3 asks.4

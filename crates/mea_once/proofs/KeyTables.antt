@@ -1,13 +1,14 @@
 -- a map or a group whose one round, key and entry have changed, with one of its futures
 use Rattle.std.proofs.Common.{◌≡◌, ℕ, ◌+◌, ◌==◌, ◌⊎◌, inl, inr, Bool, true, false, cond, List, [], ◌∷◌, Option, Some, None, option_map, nat_eq, refl, ap, sym, subst, ◌∙◌, arith}
 use Rattle.std.specs.Option.{IsSome, option_and_then}
-use Rattle.std.proofs.lemmas.Bool.{eqb-true, eq-eqb, ne_eqb, cases_eq}
+use Rattle.std.proofs.lemmas.Bool.{eqb-true, eq-eqb, ne_eqb}
 use Rattle.std.specs.FinMap.{get, insert, remove, len, empty, get-empty}
 use Rattle.std.specs.Ordering.{nat_cmp}
 use Rattle.std.specs.Map.{lookup}
 use Rattle.mea_base.specs.Totals.{total, weight}
-use Rattle.mea_base.proofs.Maps.{inside, value_in, by_put, get-there, get-other, get-gone, get-removed_other}
+use Rattle.mea_base.proofs.Maps.{inside, value_in, by_put, by_gone, get-there, get-other, get-gone, get-removed_other}
 use Rattle.mea_base.proofs.NamedMaps.{same_named, get-seen}
+use Rattle.mea_base.proofs.Tests.{by_name}
 use Rattle.mea_base.proofs.Totals.{total-remove, total-same, get_removed, get_inserted}
 use Rattle.mea_by_name.specs.declared.named_waker.NamedWaker.{NamedWaker}
 use Rattle.mea_by_name.specs.ByName.{Names, seen, own, is_of}
@@ -18,12 +19,12 @@ use Rattle.mea_once_core.specs.Waiting.{waiting_at, waiting_in}
 use Rattle.mea_once_core.specs.declared.key_call.KeyStage.TheVariants as key_stages
 use Rattle.mea_once_core.proofs.Waits.{waiting-changes}
 use Rattle.mea_once_model.specs.Tables.{Table}
+use Rattle.mea_once_model.specs.Cells.{turned_to}
 use Rattle.mea_once.specs.declared.key_future.KeyFuture.{KeyFuture}
 use Rattle.mea_once.specs.declared.round.Round.{Round}
 use Rattle.mea_once.specs.KeyEntries.{KeptTable}
-use Rattle.mea_once.specs.Parts as parts
 use Rattle.mea_once.specs.Parts.{AreKept}
-use Rattle.mea_once.specs.KeyParts.{value_of, valued, values_in, kept_cell, round_in, round_seen, table_seen, as_caller, slot_of, of_round, callers_of, IsRound, HasRound, IsKey, Absent, Computing, Valued, CallFits, waiting_of, AreTogether, turned_to}
+use Rattle.mea_once.specs.KeyParts.{value_of, valued, values_in, kept_cell, round_in, round_seen, table_seen, as_caller, slot_of, of_round, callers_of, IsRound, HasRound, IsKey, Absent, Computing, Valued, CallFits, waiting_of, AreTogether}
 use Rattle.mea_once.proofs.KeySteps.{Entry, number, IsOnly}
 
 -- where one entry has changed, each other is as it was
@@ -38,33 +39,24 @@ pub put_twice : {X : Type 0} (m : Names X) (k : ℕ) (a b : X) → insert (inser
 put_twice m k a b = same_named _ _ (by_put (insert m k a) k b (λ j o. o ≡ get (insert m k b) j) (sym (get-there m k b)) (λ j apart. get-other m k j a apart ∙ sym (get-other m k j b apart)))
 
 same_removed : {X : Type 0} (m m' : Names X) (k : ℕ) → Elsewhere m m' k → remove m' k ≡ remove m k
-same_removed {X} m m' k same = same_named _ _ (λ j. get_removed m' k j ∙ (elim (k == j) as (λ b. (k == j) ≡ b → cond {A = Option X} b None (get m' j) ≡ cond b None (get m j)) [
-  | true ↦ λ is. refl
-  | false ↦ λ is. same j (λ eq. absurd (let t : (k == j) ≡ true = eq-eqb k j eq in cc))
-] refl) ∙ sym (get_removed m k j))
+same_removed m m' k same = same_named _ _ (by_gone m' k (λ j o. o ≡ get (remove m k) j) (sym (get-gone m k)) (λ j apart. same j apart ∙ sym (get-removed_other m k j apart)))
 
 -- what a map weighs that differs at one name
 pub total_elsewhere : {X : Type 0} (v w : ℕ → X → ℕ) (m m' : Names X) (k : ℕ) → Elsewhere m m' k → ((j : ℕ) (x : X) → get m j ≡ Some x → (k ≡ j → ⊥) → w j x ≡ v j x) → total w m' + weight v k (get m k) ≡ total v m + weight w k (get m' k)
 total_elsewhere v w m m' k same alike =
-    let rest : total w (remove m k) ≡ total v (remove m k) = total-same w v (remove m k) (λ j x is. by_key j x is (cases_eq k j)) in
+    let rest : total w (remove m k) ≡ total v (remove m k) = total-same w v (remove m k) (λ j x is. by_name k j (λ eq. absurd (let none : get (remove m k) j ≡ None = ap (get (remove m k)) (sym eq) ∙ get-gone m k in cc)) (λ apart. alike j x (sym (get-removed_other m k j apart) ∙ is) apart)) in
     let gone : total w (remove m' k) ≡ total w (remove m k) = ap (total w) (same_removed m m' k same) in
     omega (arith, rest, gone, total-remove w m' k, total-remove v m k)
-  where
-    by_key : (j : ℕ) (x : _) → get (remove m k) j ≡ Some x → (k ≡ j) ⊎ (k ≡ j → ⊥) → w j x ≡ v j x
-    by_key j x is (inl eq) = absurd (let none : get (remove m k) j ≡ None = ap (get (remove m k)) (sym eq) ∙ get-gone m k in cc)
-    by_key j x is (inr apart) = alike j x (sym (get-removed_other m k j apart) ∙ is) apart
 
 -- ---- the futures of a round
 pub own_apart : {X : Type 0} (owner : X → ℕ) (o : ℕ) (m m' : Names X) (k : ℕ) → Elsewhere m m' k → ((x : X) → get m k ≡ Some x → owner x ≡ o → ⊥) → ((x : X) → get m' k ≡ Some x → owner x ≡ o → ⊥) → own owner o m' ≡ own owner o m
-own_apart {X} owner o m m' k same was is = same_named _ _ (λ j. get-own owner o m' j ∙ by_key j (cases_eq k j) ∙ sym (get-own owner o m j))
+own_apart {X} owner o m m' k same was is = same_named _ _ (λ j. by_name k j
+    (λ eq. subst (λ j. get (own owner o m') j ≡ get (own owner o m) j) eq (get-own owner o m' k ∙ hides (get m' k) is ∙ sym (hides (get m k) was) ∙ sym (get-own owner o m k)))
+    (λ apart. get-own owner o m' j ∙ ap (λ p. cond (is_of owner o p) p None) (same j apart) ∙ sym (get-own owner o m j)))
   where
     hides : (p : Option X) → ((x : X) → p ≡ Some x → owner x ≡ o → ⊥) → cond (is_of owner o p) p None ≡ None
     hides None none = refl
     hides (Some x) none = ap (λ b. cond b (Some x) None) (ne_eqb (owner x) o (none x refl))
-
-    by_key : (j : ℕ) → (k ≡ j) ⊎ (k ≡ j → ⊥) → cond (is_of owner o (get m' j)) (get m' j) None ≡ cond (is_of owner o (get m j)) (get m j) None
-    by_key j (inl eq) = subst (λ j. cond (is_of owner o (get m' j)) (get m' j) None ≡ cond (is_of owner o (get m j)) (get m j) None) eq (hides (get m' k) is ∙ sym (hides (get m k) was))
-    by_key j (inr apart) = ap (λ p. cond (is_of owner o p) p None) (same j apart)
 
 slots_apart : (a b : ℕ) → a + 1 ≡ b + 1 → a ≡ b
 slots_apart a b is = omega arith
@@ -101,7 +93,7 @@ module _ (fs : Names KeyFuture) (f n : ℕ) (x : KeyFuture) (there : get fs f �
           apart (inside here)
 
   -- and of this one, where it was a caller of it
-  pub callers_turned : (z : KeyFuture) → z.round ≡ Some n → (p : Option KeyFuture) → OfRound n p → callers_of n (turned_to fs f p) ≡ parts.turned_to (callers_of n (insert fs f z)) f (option_map as_caller p)
+  pub callers_turned : (z : KeyFuture) → z.round ≡ Some n → (p : Option KeyFuture) → OfRound n p → callers_of n (turned_to fs f p) ≡ turned_to (callers_of n (insert fs f z)) f (option_map as_caller p)
   callers_turned z of_z None of =
       ap (seen as_caller) (own-gone of_round (n + 1) fs f) ∙ seen-remove as_caller (own of_round (n + 1) fs) f
       ∙ sym (ap (λ m. remove m f) (ap (seen as_caller) (own-put of_round (n + 1) fs f z (ap slot_of of_z)) ∙ seen-insert as_caller (own of_round (n + 1) fs) f z) ∙ put_gone (seen as_caller (own of_round (n + 1) fs)) f (as_caller z))
@@ -128,6 +120,22 @@ get_values t [] j = get-empty nat_cmp j
 get_values t (p ∷ ps) j = get_valued (values_in t ps) p.0 (value_of (entry_at t p.1)) j ∙ ap (cond (p.0 == j) (value_of (entry_at t p.1))) (get_values t ps j)
     ∙ ap (λ b. cond b (value_of (entry_at t p.1)) (option_and_then (λ n. value_of (entry_at t n)) (lookup (nat_eq j) ps))) (turn_round p.0 j)
     ∙ (elim (nat_eq j p.0) as (λ b. cond b (value_of (entry_at t p.1)) (option_and_then (λ n. value_of (entry_at t n)) (lookup (nat_eq j) ps)) ≡ option_and_then (λ n. value_of (entry_at t n)) (cond b (Some p.1) (lookup (nat_eq j) ps))) [ true ↦ refl | false ↦ refl ])
+
+-- numbers whose entries are as they were have the same value
+pub values_as : (t t' : CoreTable ℕ ℕ NamedWaker) (o : Option ℕ) → ((q : ℕ) → o ≡ Some q → entry_at t' q ≡ entry_at t q) → value_at t' o ≡ value_at t o
+values_as t t' None same = refl
+values_as t t' (Some q) same = ap value_of (same q refl)
+
+-- a key stands as it did where its number, its current round, its entry and its round are as they were
+pub key_as : (once : Bool) (e e' : KeptTable) (k : ℕ) → number e'.keyed k ≡ number e.keyed k → get e'.current k ≡ get e.current k → ((m : ℕ) → number e.keyed k ≡ Some m → entry_at e'.keyed.table m ≡ entry_at e.keyed.table m)
+    → ((q : ℕ) (r : Round) → get e.rounds q ≡ Some r → r.key ≡ k → number e.keyed k ≡ Some r.entry → get e'.rounds q ≡ Some r) → IsKey once e k → IsKey once e' k
+key_as once e e' k num now entries rounds (Absent none current) = Absent (num ∙ none) (now ∙ current)
+key_as once e e' k num now entries rounds (Computing q r s is_num current is key entry empty listed) = Computing q r s (num ∙ is_num) (now ∙ current) (rounds q r is key is_num) key (entries r.entry is_num ∙ entry) empty listed
+key_as once e e' k num now entries rounds (Valued m v s is_num current entry full listed map_only round) = Valued m v s (num ∙ is_num) (now ∙ current) (entries m is_num ∙ entry) full listed map_only (at round)
+  where
+    at : HasRound e k m s → HasRound e' k m s
+    at (inl nobody) = inl nobody
+    at (inr (q, r, is, at_m, key)) = inr (q, r, rounds q r is key (is_num ∙ ap (λ m. Some m) (sym at_m)), at_m, key)
 
 -- ---- a table before a step at round n, entry m and key k
 module _ (once : Bool) (e : KeptTable) (fs : Names KeyFuture) (kept : AreTogether once e fs) where
@@ -161,11 +169,11 @@ module _ (once : Bool) (e : KeptTable) (fs : Names KeyFuture) (kept : AreTogethe
       shown = kept.rounds n r there
 
       by_key : (v : ℕ) → shown.shown.cell.value ≡ Some v → number e.keyed r.key ≡ Some r.entry → IsKey once e r.key → ⊥
-      by_key v full is (Absent none current) = absurd (cc)
       by_key v full is (Computing q s entry num current is_there key entry_is empty listed) =
           let same : s.entry ≡ r.entry = inside (sym num ∙ is) in
           let one : entry ≡ shown.shown = inside (sym entry_is ∙ ap (entry_at e.keyed.table) same ∙ shown.there) in
           absurd (let none : shown.shown.cell.value ≡ None = ap (λ (s : Entry). s.cell.value) (sym one) ∙ empty in cc)
+      by_key v full is (Absent none current) = absurd (cc)
       by_key v full is (Valued m u s num current entry_is full_now listed map_only round) = absurd (cc)
 
       at : (b : Bool) → shown.shown.listed ≡ b → shown.shown.listed ≡ false
@@ -224,49 +232,25 @@ module _ (once : Bool) (e : KeptTable) (fs : Names KeyFuture) (kept : AreTogethe
         callers = it.callers;
         some = it.some;
         kept = subst (AreKept false (kept_cell it.shown.cell r)) (sym (callers_elsewhere fs f n x there p c.of was q apart)) it.kept;
-        listed = λ yes_listed. by_key (it.listed yes_listed) (cases_eq k r.key);
+        listed = λ yes_listed. by_name k r.key (λ same. ap (number e'.keyed) (sym same) ∙ own_number ∙ c.keeps_number r.entry (ap (number e.keyed) same ∙ it.listed yes_listed) (λ eq. apart (around.entry q r is (sym eq))))
+            (λ other. other_number r.key other ∙ it.listed yes_listed);
       }
-    where
-      by_key : number e.keyed r.key ≡ Some r.entry → (k ≡ r.key) ⊎ (k ≡ r.key → ⊥) → number e'.keyed r.key ≡ Some r.entry
-      by_key is_num (inl same) = ap (number e'.keyed) (sym same) ∙ own_number ∙ c.keeps_number r.entry (ap (number e.keyed) same ∙ is_num) (λ eq. apart (around.entry q r is (sym eq)))
-      by_key is_num (inr other) = other_number r.key other ∙ is_num
 
   all_rounds : (q : ℕ) (r : Round) → get e'.rounds q ≡ Some r → IsRound e' after q r
-  all_rounds q r is = at (cases_eq n q)
-    where
-      at : (n ≡ q) ⊎ (n ≡ q → ⊥) → IsRound e' after q r
-      at (inl same) = subst (λ q. IsRound e' after q r) same ((c.round r (ap (get e'.rounds) same ∙ is)).0)
-      at (inr apart) = other_round q r (sym (c.rounds q apart) ∙ is) apart
+  all_rounds q r is = by_name n q (λ same. subst (λ q. IsRound e' after q r) same ((c.round r (ap (get e'.rounds) same ∙ is)).0)) (λ apart. other_round q r (sym (c.rounds q apart) ∙ is) apart)
 
   -- another key
   pub other_key : (j : ℕ) → (k ≡ j → ⊥) → IsKey once e j → IsKey once e' j
-  other_key j apart (Absent none current) = Absent (other_number j apart ∙ none) (c.current j apart ∙ current)
-  other_key j apart (Computing q r s num current is key entry empty listed) =
-      let other : n ≡ q → ⊥ = λ same. apart (sym (around.here r (ap (get e.rounds) same ∙ is)).1 ∙ key) in
-      Computing q r s (other_number j apart ∙ num) (c.current j apart ∙ current) (c.rounds q other ∙ is) key (same_entry r q is other ∙ entry) empty listed
-  other_key j apart (Valued i v s num current entry full listed map_only round) =
-      let other : i ≡ m → ⊥ = λ same. apart (around.only j (num ∙ ap (λ i. Some i) same)) in
-      Valued i v s (other_number j apart ∙ num) (c.current j apart ∙ current) (c.entries.others i other ∙ entry) full listed map_only (at round)
-    where
-      at : HasRound e j i s → HasRound e' j i s
-      at (inl nobody) = inl nobody
-      at (inr (q, r, is, at_i, key)) = inr (q, r, c.rounds q (λ same. apart (sym (around.here r (ap (get e.rounds) same ∙ is)).1 ∙ key)) ∙ is, at_i, key)
+  other_key j apart = key_as once e e' j (other_number j apart) (c.current j apart) (λ i num. c.entries.others i (λ same. apart (around.only j (num ∙ ap (λ i. Some i) same))))
+      (λ q r is key num. c.rounds q (λ same. apart (sym (around.here r (ap (get e.rounds) same ∙ is)).1 ∙ key)) ∙ is)
 
   all_keys : (j : ℕ) → IsKey once e' j
-  all_keys j = at (cases_eq k j)
-    where
-      at : (k ≡ j) ⊎ (k ≡ j → ⊥) → IsKey once e' j
-      at (inl same) = subst (IsKey once e') same c.key
-      at (inr apart) = other_key j apart (kept.keys j)
+  all_keys j = by_name k j (λ same. subst (IsKey once e') same c.key) (λ apart. other_key j apart (kept.keys j))
 
   one_entry : (q i : ℕ) (r s : Round) → get e'.rounds q ≡ Some r → get e'.rounds i ≡ Some s → r.entry ≡ s.entry → q ≡ i
-  one_entry q i r s one two same = at (cases_eq n q) (cases_eq n i)
-    where
-      at : (n ≡ q) ⊎ (n ≡ q → ⊥) → (n ≡ i) ⊎ (n ≡ i → ⊥) → q ≡ i
-      at (inl a) (inl b) = sym a ∙ b
-      at (inl a) (inr b) = sym a ∙ around.entry i s (sym (c.rounds i b) ∙ two) (sym same ∙ (c.round r (ap (get e'.rounds) a ∙ one)).1)
-      at (inr a) (inl b) = sym (around.entry q r (sym (c.rounds q a) ∙ one) (same ∙ (c.round s (ap (get e'.rounds) b ∙ two)).1)) ∙ b
-      at (inr a) (inr b) = kept.one q i r s (sym (c.rounds q a) ∙ one) (sym (c.rounds i b) ∙ two) same
+  one_entry q i r s one two same = by_name n q
+      (λ a. by_name n i (λ b. sym a ∙ b) (λ b. sym a ∙ around.entry i s (sym (c.rounds i b) ∙ two) (sym same ∙ (c.round r (ap (get e'.rounds) a ∙ one)).1)))
+      (λ a. by_name n i (λ b. sym (around.entry q r (sym (c.rounds q a) ∙ one) (same ∙ (c.round s (ap (get e'.rounds) b ∙ two)).1)) ∙ b) (λ b. kept.one q i r s (sym (c.rounds q a) ∙ one) (sym (c.rounds i b) ∙ two) same))
 
   -- who has the key's number is the key
   its_number : (j q : ℕ) → number e.keyed j ≡ Some q → c.num ≡ Some q → k ≡ j
@@ -276,32 +260,22 @@ module _ (once : Bool) (e : KeptTable) (fs : Names KeyFuture) (kept : AreTogethe
   ]
 
   two_keys : (i j q : ℕ) → number e'.keyed i ≡ Some q → number e'.keyed j ≡ Some q → i ≡ j
-  two_keys i j q one two = at (cases_eq k i) (cases_eq k j)
-    where
-      at : (k ≡ i) ⊎ (k ≡ i → ⊥) → (k ≡ j) ⊎ (k ≡ j → ⊥) → i ≡ j
-      at (inl a) (inl b) = sym a ∙ b
-      at (inl a) (inr b) = sym a ∙ its_number j q (sym (other_number j b) ∙ two) (sym own_number ∙ ap (number e'.keyed) a ∙ one)
-      at (inr a) (inl b) = sym (its_number i q (sym (other_number i a) ∙ one) (sym own_number ∙ ap (number e'.keyed) b ∙ two)) ∙ b
-      at (inr a) (inr b) = kept.apart i j q (sym (other_number i a) ∙ one) (sym (other_number j b) ∙ two)
+  two_keys i j q one two = by_name k i
+      (λ a. by_name k j (λ b. sym a ∙ b) (λ b. sym a ∙ its_number j q (sym (other_number j b) ∙ two) (sym own_number ∙ ap (number e'.keyed) a ∙ one)))
+      (λ a. by_name k j (λ b. sym (its_number i q (sym (other_number i a) ∙ one) (sym own_number ∙ ap (number e'.keyed) b ∙ two)) ∙ b) (λ b. kept.apart i j q (sym (other_number i a) ∙ one) (sym (other_number j b) ∙ two)))
 
   all_calls : (g : ℕ) (y : KeyFuture) → get after g ≡ Some y → CallFits y.round e' y
-  all_calls g y is = at (cases_eq f g)
+  all_calls g y is = by_name f g (λ same. c.call y (sym (turned_at fs f p) ∙ ap (get after) same ∙ is)) (λ apart. by_round y.round refl (kept.calls g y (sym (turned_elsewhere fs f p g apart) ∙ is)))
     where
       by_round : (r : Option ℕ) → y.round ≡ r → CallFits r e y → CallFits r e' y
       by_round None of fits = fits
-      by_round (Some q) of (r, had, stage, key, polled) = by_name (cases_eq n q)
-        where
-          by_name : (n ≡ q) ⊎ (n ≡ q → ⊥) → CallFits (Some q) e' y
-          by_name (inl same) =
-              let now = value_in (get e'.rounds n) (c.stays g y is (of ∙ ap (λ q. Some q) (sym same))) in
-              let it = c.round now.0 now.1 in
-              let old = around.here r (ap (get e.rounds) same ∙ had) in
-              (now.0, ap (get e'.rounds) (sym same) ∙ now.1, stage ∙ ap (λ n. key_stages.Calls n) (old.0 ∙ sym it.1), it.2 ∙ sym old.1 ∙ key, polled)
-          by_name (inr apart) = (r, c.rounds q apart ∙ had, stage, key, polled)
-
-      at : (f ≡ g) ⊎ (f ≡ g → ⊥) → CallFits y.round e' y
-      at (inl same) = c.call y (sym (turned_at fs f p) ∙ ap (get after) same ∙ is)
-      at (inr apart) = by_round y.round refl (kept.calls g y (sym (turned_elsewhere fs f p g apart) ∙ is))
+      by_round (Some q) of (r, had, stage, key, polled) = by_name n q
+          (λ same.
+          let now = value_in (get e'.rounds n) (c.stays g y is (of ∙ ap (λ q. Some q) (sym same))) in
+          let it = c.round now.0 now.1 in
+          let old = around.here r (ap (get e.rounds) same ∙ had) in
+          (now.0, ap (get e'.rounds) (sym same) ∙ now.1, stage ∙ ap (λ n. key_stages.Calls n) (old.0 ∙ sym it.1), it.2 ∙ sym old.1 ∙ key, polled))
+          (λ apart. (r, c.rounds q apart ∙ had, stage, key, polled))
 
   all_waiting : waiting_in e'.keyed.table.slots ≡ total (waiting_of e') e'.rounds
   all_waiting =
@@ -335,24 +309,17 @@ module _ (once : Bool) (e : KeptTable) (fs : Names KeyFuture) (kept : AreTogethe
       at (Some r) is = ap (λ o. Some (round_in o r)) (same_entry r q is apart)
 
   seen_values : Elsewhere (table_seen e).values (table_seen e').values k
-  seen_values j apart = get_values e'.keyed.table e'.keyed.table.pairs j ∙ ap (value_at e'.keyed.table) (other_number j apart) ∙ at (number e.keyed j) refl ∙ sym (get_values e.keyed.table e.keyed.table.pairs j)
-    where
-      at : (o : Option ℕ) → number e.keyed j ≡ o → value_at e'.keyed.table o ≡ value_at e.keyed.table o
-      at None is = refl
-      at (Some q) is = ap value_of (c.entries.others q (λ same. apart (around.only j (is ∙ ap (λ q. Some q) same))))
+  seen_values j apart = get_values e'.keyed.table e'.keyed.table.pairs j ∙ ap (value_at e'.keyed.table) (other_number j apart) ∙ values_as e.keyed.table e'.keyed.table (number e.keyed j) (λ q is. c.entries.others q (λ same. apart (around.only j (is ∙ ap (λ q. Some q) same))))
+      ∙ sym (get_values e.keyed.table e.keyed.table.pairs j)
 
   pub seen_as : (t : Table) → t.current ≡ e'.current → Elsewhere (table_seen e).rounds t.rounds n → get t.rounds n ≡ option_map (round_seen e'.keyed.table) (get e'.rounds n) → Elsewhere (table_seen e).values t.values k → get t.values k ≡ value_at e'.keyed.table c.num
       → table_seen e' ≡ t
   seen_as t current rounds round values value = λ i. record {
-    values = same_named (table_seen e').values t.values (λ j. by_key j (cases_eq k j)) i;
+    values = same_named (table_seen e').values t.values (λ j. by_name k j
+        (λ same. subst (λ j. get (table_seen e').values j ≡ get t.values j) same (get_values e'.keyed.table e'.keyed.table.pairs k ∙ ap (value_at e'.keyed.table) own_number ∙ sym value))
+        (λ apart. seen_values j apart ∙ sym (values j apart))) i;
     current = sym current i;
-    rounds = same_named (table_seen e').rounds t.rounds (λ q. by_name q (cases_eq n q)) i;
+    rounds = same_named (table_seen e').rounds t.rounds (λ q. by_name n q
+        (λ same. subst (λ q. get (table_seen e').rounds q ≡ get t.rounds q) same (get-seen (λ k r. round_seen e'.keyed.table r) e'.rounds n ∙ sym round))
+        (λ apart. seen_rounds q apart ∙ sym (rounds q apart))) i;
   }
-    where
-      by_key : (j : ℕ) → (k ≡ j) ⊎ (k ≡ j → ⊥) → get (table_seen e').values j ≡ get t.values j
-      by_key j (inl same) = subst (λ j. get (table_seen e').values j ≡ get t.values j) same (get_values e'.keyed.table e'.keyed.table.pairs k ∙ ap (value_at e'.keyed.table) own_number ∙ sym value)
-      by_key j (inr apart) = seen_values j apart ∙ sym (values j apart)
-
-      by_name : (q : ℕ) → (n ≡ q) ⊎ (n ≡ q → ⊥) → get (table_seen e').rounds q ≡ get t.rounds q
-      by_name q (inl same) = subst (λ q. get (table_seen e').rounds q ≡ get t.rounds q) same (get-seen (λ k r. round_seen e'.keyed.table r) e'.rounds n ∙ sym round)
-      by_name q (inr apart) = seen_rounds q apart ∙ sym (rounds q apart)

@@ -3,9 +3,10 @@ use Rattle.std.proofs.Common.{◌≡◌, ℕ, ◌+◌, ◌≤◌, ◌==◌, ◌+
 use Rattle.std.specs.FinMap.{get, insert, remove, empty, entries, values, get-empty, len-empty, len-entries}
 use Rattle.std.specs.Ordering.{nat_cmp}
 use Rattle.std.proofs.lemmas.Bool.{eqb-true, eq-eqb}
+use Rattle.std.proofs.lemmas.List.{length-append, map-append}
 use Rattle.mea_base.specs.Totals.{weight}
 use Rattle.mea_base.specs.Queue.{waiting_after, granted_in}
-use Rattle.mea_base.proofs.Maps.{by_put, removed_there, nothing_at, total-has, get-removed_other, inside, is_absent, value_in}
+use Rattle.mea_base.proofs.Maps.{by_put, removed_there, nothing_at, total-has, get-removed_other, inside, is_absent, value_in, none_if}
 use Rattle.mea_base.proofs.NamedMaps.{same_named}
 use Rattle.mea_base.proofs.Totals.{total-empty}
 use Rattle.mea_by_name.specs.declared.named_waker.NamedWaker.{NamedWaker}
@@ -28,8 +29,7 @@ use Rattle.mea_once_core.specs.declared.cell_stage.CellStage.{CellStage}
 use Rattle.mea_once_core.specs.declared.cell_stage.CellStage.TheVariants.{New, Queued, Running, Done}
 use Rattle.mea_once_core.proofs.Permits.{waits_behind, first_granted}
 use Rattle.mea_once_model.specs.declared.errand.Errand.{Errand}
-use Rattle.mea_once_model.specs.declared.errand.Errand.TheVariants.{Calls, Computes, Alone, Sets, Inserts, Awaits}
-use Rattle.mea_once_model.specs.Cells as model
+use Rattle.mea_once_model.specs.declared.errand.Errand.TheVariants.{Alone, Awaits}
 use Rattle.mea_once_model.specs.Cells.{Cell, is_alone, passed, woken_next}
 use Rattle.mea_once.specs.declared.future_entry.FutureEntry.{FutureEntry}
 use Rattle.mea_once.specs.Cores.{NamedCell, IsOnePermit}
@@ -66,22 +66,14 @@ pass_seen ((Owes, l) ∷ q) s v r w is asks = absurd asks
 abbrev pub woken_in : List NamedWaker → List ℕ
 woken_in ws = map (λ (k : NamedWaker). k.waker) ws
 
-woken_push : (ws : List NamedWaker) (k : NamedWaker) → woken_in (ws ++ k ∷ []) ≡ woken_in ws ++ k.waker ∷ []
-woken_push [] k = refl
-woken_push (v ∷ ws) k = ap (λ us. v.waker ∷ us) (woken_push ws k)
-
 pub pass_woken : (q : Queue) (s : Core NamedWaker) → AskForOne q → woken_in (passed_to q s).wakes ≡ woken_in s.wakes ++ woken_next (who (names_in q))
 pass_woken [] s asks = sym (append-nil (woken_in s.wakes))
-pass_woken ((Acquires n d k, l) ∷ q) s asks = woken_push s.wakes k
+pass_woken ((Acquires n d k, l) ∷ q) s asks = map-append (λ (k : NamedWaker). k.waker) s.wakes (k ∷ [])
 pass_woken ((Owes, l) ∷ q) s asks = absurd asks
-
-length-push : (ws : List NamedWaker) (k : NamedWaker) → length (ws ++ k ∷ []) ≡ length ws + 1
-length-push [] k = refl
-length-push (v ∷ ws) k = omega (arith, length-push ws k)
 
 pub pass_length : (q : Queue) (s : Core NamedWaker) → s.queue ≡ q → AskForOne q → length (passed_to q s).queue + length (passed_to q s).wakes ≡ length q + length s.wakes
 pass_length [] s is asks = ap (λ (q : Queue). length q + length s.wakes) is
-pass_length ((Acquires n d k, l) ∷ q) s is asks = omega (arith, length-push s.wakes k)
+pass_length ((Acquires n d k, l) ∷ q) s is asks = let more : length (s.wakes ++ k ∷ []) ≡ length s.wakes + 1 = length-append s.wakes (k ∷ []) in omega (arith, more)
 pass_length ((Owes, l) ∷ q) s is asks = absurd asks
 
 pub length-with : (q : Queue) (n : ℕ) (w : NamedWaker) → length (sem_calls.with_waker q n w) ≡ length q
@@ -113,22 +105,22 @@ absent_waits (k ∷ ks) f absent = ap (λ b. is_some (cond b (Some k.waker) (wak
 -- ---- stages
 pub held_is : (s : CellStage) → held_at s ≡ cond (runs_at s) 1 0
 held_is New = refl
-held_is (Queued n) = refl
-held_is Running = refl
-held_is Done = refl
+held_is _ = refl
 
 unqueued_at : (s : CellStage) → ((n : ℕ) → s ≡ Queued n → ⊥) → IsUnqueued (Some (acquire_at s))
-unqueued_at New none = tt
 unqueued_at (Queued n) none = absurd (none n refl)
-unqueued_at Running none = tt
-unqueued_at Done none = tt
+unqueued_at _ none = tt
 
 pub fits_any : (caller : Bool) (s : CellStage) → StageFits caller s → StageFits true s
 fits_any true s fits = fits
 fits_any false New fits = tt
-fits_any false (Queued n) fits = absurd fits
-fits_any false Running fits = absurd fits
-fits_any false Done fits = absurd fits
+fits_any false _ fits = absurd fits
+
+-- who may be polled may end
+pub end_at : (p : Core NamedWaker) (s : CellStage) → MayPoll p s → MayEnd p s
+end_at p (Queued n) may = may
+end_at p Running may = may
+end_at p _ may = tt
 
 -- ---- a cell, its futures, and one of them
 module _ (once : Bool) (e : KeptCell) (fs : Names FutureEntry) (tied : Tied once e fs) (f : ℕ) (x : FutureEntry) (there : get fs f ≡ Some x) where
@@ -158,24 +150,14 @@ module _ (once : Bool) (e : KeptCell) (fs : Names FutureEntry) (tied : Tied once
   pub may_poll : MayPoll e.cell.permit x.stage
   may_poll = may_at x.stage refl (fits_any (is_caller x.errand) x.stage (tied.each f x there).stage)
 
-  end_at : (s : CellStage) → MayPoll e.cell.permit s → MayEnd e.cell.permit s
-  end_at New may = tt
-  end_at (Queued n) may = may
-  end_at Running may = may
-  end_at Done may = tt
-
   pub may_end : MayEnd e.cell.permit x.stage
-  may_end = end_at x.stage may_poll
+  may_end = end_at e.cell.permit x.stage may_poll
 
   pub some_futures : 1 ≤ e.futures
   some_futures = omega (arith, tied.futures, len-some fs f x there)
 
   pub some_alone : cond (is_alone x.errand) 1 0 ≤ e.alone
   some_alone = omega (arith, tied.alone, total-has (λ k (x : FutureEntry). cond (is_alone x.errand) 1 0) fs f x there)
-
-  -- who does not wait until the cell is full is not among those who do
-  pub apart : model.is_alone x.errand ≡ true → (g : ℕ) (y : FutureEntry) → get fs g ≡ Some y → f ≡ g
-  apart alone g y is = tied.single f g x y there is alone
 
   -- the waker that is kept is of one who may run
   pub runs_may : runs e.running f ≡ true → MayRun x
@@ -195,35 +177,39 @@ module _ (once : Bool) (e : KeptCell) (fs : Names FutureEntry) (tied : Tied once
       at false idle = idle
       at true run = absurd (let may : cond (is_alone x.errand) true (is_running x) ≡ true = runs_may run in let no : cond (is_alone x.errand) true (is_running x) ≡ false = ap (λ b. cond b true (is_running x)) shares ∙ none in cc)
 
-  -- ---- it changes its stage
-  module _ (c : NamedCell) (s : CellStage) (stage : StageFits (is_caller x.errand) s) (run : runs_at x.stage ≡ true → runs_at s ≡ true) (linked : Linked c.permit.queue c.permit.granted (insert acquires f (acquire_at s)))
-      (held : HoldsAs e.cell.permit x.stage c.permit s) (waits : c.waits ≡ e.cell.waits) where
-    abbrev pub turned_one : FutureEntry
-    turned_one = record x { stage = s }
+  -- ---- it changes, with its cell and the waker that is kept
+  module _ (c : NamedCell) (q : Option NamedWaker) (y : FutureEntry) (same : is_alone y.errand ≡ is_alone x.errand) where
+    before : (g : ℕ) (z : FutureEntry) → get (insert fs f y) g ≡ Some z → (v : FutureEntry) × (get fs g ≡ Some v) × (is_alone v.errand ≡ is_alone z.errand)
+    before g z = by_put fs f y (λ g o. o ≡ Some z → (v : FutureEntry) × (get fs g ≡ Some v) × (is_alone v.errand ≡ is_alone z.errand))
+        (λ is. (x, there, sym same ∙ ap (λ (x : FutureEntry). is_alone x.errand) (inside is))) (λ g apart is. (z, is, refl)) g
 
-    before : (g : ℕ) (z : FutureEntry) → get (insert fs f turned_one) g ≡ Some z → (y : FutureEntry) × (get fs g ≡ Some y) × (y.errand ≡ z.errand)
-    before g z = by_put fs f turned_one (λ g o. o ≡ Some z → (y : FutureEntry) × (get fs g ≡ Some y) × (y.errand ≡ z.errand)) (λ is. (x, there, ap (λ (x : FutureEntry). x.errand) (inside is))) (λ g apart is. (z, is, refl)) g
-
-    may_still : (alone : Bool) → cond alone true (runs_at x.stage) ≡ true → cond alone true (runs_at s) ≡ true
-    may_still true is = refl
-    may_still false is = run is
-
-    pub turned : Tied once (record e { cell = c }) (insert fs f turned_one)
-    turned = record {
-      linked = rw (seen-insert acquire_of fs f turned_one) linked;
+    pub changed : Linked c.permit.queue c.permit.granted (insert acquires f (acquire_of y)) → held_of c.permit + cond (is_running x) 1 0 ≡ held_of e.cell.permit + cond (is_running y) 1 0 → ((k : NamedWaker) → q ≡ Some k → e.running ≡ Some k) → (MayRun x → MayRun y)
+        → ((g : ℕ) (z : FutureEntry) → get (insert fs f y) g ≡ Some z → IsFuture once c.waits g z) → Tied once (record e { cell = c; running = q }) (insert fs f y)
+    changed linked held runner may each = record {
+      linked = rw (seen-insert acquire_of fs f y) linked;
       held =
           let had : weight (λ k (x : FutureEntry). cond (is_running x) 1 0) f (get fs f) ≡ cond (is_running x) 1 0 = ap (weight (λ k (x : FutureEntry). cond (is_running x) 1 0) f) there in
-          omega (arith, tied.held, held, held_is x.stage, held_is s, had, count-put fs f is_running turned_one);
-      runner = λ k is. let it = tied.runner k is in
-          by_put fs f turned_one (λ g o. (z : FutureEntry) → get fs g ≡ Some z → MayRun z → (v : FutureEntry) × (o ≡ Some v) × MayRun v)
-          (λ z is may. (turned_one, refl, may_still (is_alone x.errand) (subst MayRun (inside (sym is ∙ there)) may))) (λ g apart z is may. (z, is, may)) k.future it.0 it.1 it.2;
-      each = by_put fs f turned_one (λ g o. (z : FutureEntry) → o ≡ Some z → IsFuture once c.waits g z)
-          (λ z is. subst (IsFuture once c.waits f) (inside is) (rw waits (let it = tied.each f x there in record { fits = it.fits; stage = stage; slot = it.slot; place = it.place })))
-          (λ g apart z is. rw waits (tied.each g z is));
-      single = λ g j y z one two alone. let first = before g y one in let second = before j z two in tied.single g j first.0 second.0 first.1 second.1 (ap is_alone first.2 ∙ alone);
-      futures = omega (arith, tied.futures, len-over fs f turned_one x there);
-      alone = omega (arith, tied.alone, count-over fs f (λ (x : FutureEntry). is_alone x.errand) turned_one x there refl);
+          omega (arith, tied.held, held, had, count-put fs f is_running y);
+      runner = λ k is. let it = tied.runner k (runner k is) in
+          by_put fs f y (λ g o. (z : FutureEntry) → get fs g ≡ Some z → MayRun z → (v : FutureEntry) × (o ≡ Some v) × MayRun v)
+          (λ z is run. (y, refl, may (subst MayRun (inside (sym is ∙ there)) run))) (λ g apart z is run. (z, is, run)) k.future it.0 it.1 it.2;
+      each = each;
+      single = λ g j a b one two alone. let first = before g a one in let second = before j b two in tied.single g j first.0 second.0 first.1 second.1 (first.2 ∙ alone);
+      futures = omega (arith, tied.futures, len-over fs f y x there);
+      alone = omega (arith, tied.alone, count-over fs f (λ (x : FutureEntry). is_alone x.errand) y x there same);
     }
+
+  -- it changes its stage
+  pub turned : (c : NamedCell) (s : CellStage) → StageFits (is_caller x.errand) s → (runs_at x.stage ≡ true → runs_at s ≡ true) → Linked c.permit.queue c.permit.granted (insert acquires f (acquire_at s)) → HoldsAs e.cell.permit x.stage c.permit s → c.waits ≡ e.cell.waits
+      → Tied once (record e { cell = c }) (insert fs f (record x { stage = s }))
+  turned c s stage run linked held waits = changed c e.running (record x { stage = s }) refl linked (omega (arith, held, held_is x.stage, held_is s)) (λ k is. is) (may_still (is_alone x.errand))
+      (by_put fs f (record x { stage = s }) (λ g o. (z : FutureEntry) → o ≡ Some z → IsFuture once c.waits g z)
+      (λ z is. subst (IsFuture once c.waits f) (inside is) (rw waits (let it = tied.each f x there in record { fits = it.fits; stage = stage; slot = it.slot; place = it.place })))
+      (λ g apart z is. rw waits (tied.each g z is)))
+    where
+      may_still : (alone : Bool) → cond alone true (runs_at x.stage) ≡ true → cond alone true (runs_at s) ≡ true
+      may_still true is = refl
+      may_still false is = run is
 
   -- ---- it is gone, and its initialiser keeps no waker
   pub departs : (c : NamedCell) → Linked c.permit.queue c.permit.granted (remove acquires f) → held_of c.permit + cond (is_running x) 1 0 ≡ held_of e.cell.permit
@@ -263,7 +249,9 @@ module _ (once : Bool) (e : KeptCell) (fs : Names FutureEntry) (tied : Tied once
 
   -- where it has the only turn, no other initialiser runs
   pub nobody_runs : runs e.running f ≡ false → MayRun x → held_of e.cell.permit ≤ 1 → e.running ≡ None
-  nobody_runs out may few = at e.running refl
+  nobody_runs out may few = none_if e.running (λ k is.
+      let it = tied.runner k is in
+      both_run k (λ same. absurd (let yes : runs e.running f ≡ true = ap (λ r. runs r f) is ∙ eq-eqb k.future f same in cc)) it.0 it.1 (is_alone x.errand) (is_alone it.0.errand) refl refl may it.2)
     where
       both_run : (k : NamedWaker) → (k.future ≡ f → ⊥) → (z : FutureEntry) → get fs k.future ≡ Some z → (a b : Bool) → is_alone x.errand ≡ a → is_alone z.errand ≡ b → cond a true (is_running x) ≡ true → cond b true (is_running z) ≡ true → ⊥
       both_run k other z is true b alone_x alone_z run_x run_z = other (sym (tied.single f k.future x z there is alone_x))
@@ -274,19 +262,9 @@ module _ (once : Bool) (e : KeptCell) (fs : Names FutureEntry) (tied : Tied once
           let rest = total-has (λ k (x : FutureEntry). cond (is_running x) 1 0) (remove fs f) k.future z (get-removed_other fs f k.future (λ same. other (sym same)) ∙ is) in
           absurd (omega (arith, few, tied.held, one, two, rest, count-gone fs f is_running x there))
 
-      at : (r : Option NamedWaker) → e.running ≡ r → e.running ≡ None
-      at None is = is
-      at (Some k) is =
-          let it = tied.runner k is in
-          absurd (both_run k (λ same. absurd (let yes : runs e.running f ≡ true = ap (λ r. runs r f) is ∙ eq-eqb k.future f same in cc)) it.0 it.1 (is_alone x.errand) (is_alone it.0.errand) refl refl may it.2)
-
 -- ---- what is granted does not wait
 pub not_waiting : (s : Core NamedWaker) → IsOnePermit s → (n d : ℕ) → get s.granted n ≡ Some d → waiting s.queue n ≡ None
-not_waiting s is n d granted = at (waiting s.queue n) refl
-  where
-    at : (o : Option (ℕ × ℕ)) → waiting s.queue n ≡ o → waiting s.queue n ≡ None
-    at None none = none
-    at (Some p) some = absurd (let none = is.granted_apart n (λ none. absurd (cc)) in cc)
+not_waiting s is n d granted = none_if (waiting s.queue n) (λ p some. absurd (let none = is.granted_apart n (λ none. absurd (cc)) in cc))
 
 pub not_granted : (s : Core NamedWaker) → IsOnePermit s → (n : ℕ) (p : ℕ × ℕ) → waiting s.queue n ≡ Some p → get s.granted n ≡ None
 not_granted s is n p waits = is.granted_apart n (λ none. absurd (cc))
@@ -398,11 +376,8 @@ new_tied once c v new = record {
 
 -- who neither waits for a call that runs once nor uses its cell alone asks for its turn
 pub asks_turn : (once : Bool) (j : Errand) → fits once j ≡ true → (if once then is_wait j else is_alone j) ≡ false → is_caller j ≡ true
-asks_turn once (Calls q) fit other = refl
-asks_turn once (Computes q) fit other = refl
 asks_turn true (Alone q) fit other = absurd (let no : false ≡ true = fit in cc)
 asks_turn false (Alone q) fit other = absurd (let no : true ≡ false = other in cc)
-asks_turn once (Sets v) fit other = refl
-asks_turn once (Inserts v) fit other = refl
 asks_turn true Awaits fit other = absurd (let no : true ≡ false = other in cc)
 asks_turn false Awaits fit other = absurd (let no : false ≡ true = fit in cc)
+asks_turn once _ fit other = refl

@@ -5,14 +5,14 @@ use Rattle.std.proofs.lemmas.Bool.{eqb-true}
 use Rattle.mea_family.specs.declared.answer.Answer.{Answer}
 use Rattle.mea_family.specs.declared.answer.Answer.TheVariants as answers
 use Rattle.mea_base.specs.Ready.{Waking}
-use Rattle.mea_base.proofs.Maps.{by_put, get-gone, removed_there, inside}
+use Rattle.mea_base.proofs.Maps.{by_put, get-gone, removed_there, inside, value_in}
 use Rattle.mea_base.proofs.Totals.{total-empty}
 use Rattle.mea_by_name.specs.declared.named_waker.NamedWaker.{NamedWaker}
 use Rattle.mea_by_name.specs.ByName.{seen, count}
 use Rattle.mea_by_name.specs.NamedQueue.{Waiting, waits, waker_for, with_waker, without, registering, wakers}
 use Rattle.mea_by_name.specs.LackingQueue.{who}
 use Rattle.mea_by_name.proofs.Cases.{if_true, if_false}
-use Rattle.mea_by_name.proofs.Own.{insert_same, seen-at, seen-back, seen-insert, len-over, count-over, count-gone}
+use Rattle.mea_by_name.proofs.Own.{insert_same, seen-at, seen-back, seen-insert, count-gone}
 use Rattle.mea_sem_core.specs.declared.acquire.Acquire.TheVariants as acquire
 use Rattle.mea_sem_core.specs.Core.{held_of}
 use Rattle.mea_sets.specs.declared.place.Place.{Place}
@@ -27,7 +27,7 @@ use Rattle.mea_once_core.specs.declared.cell_stage.CellStage.TheVariants.{New, Q
 use Rattle.mea_once_model.specs.declared.errand.Initialiser.{Initialiser}
 use Rattle.mea_once_model.specs.declared.errand.Initialiser.TheVariants.{Unsettled, Gives, Fails}
 use Rattle.mea_once_model.specs.declared.errand.Errand.{Errand}
-use Rattle.mea_once_model.specs.declared.errand.Errand.TheVariants.{Calls, Computes, Alone, Sets, Inserts, Awaits}
+use Rattle.mea_once_model.specs.declared.errand.Errand.TheVariants.{Calls, Alone, Awaits}
 use Rattle.mea_once_model.specs.Cells as model
 use Rattle.mea_once_model.specs.Cells.{Cell, Step, init_of, is_alone, settled}
 use Rattle.mea_once.specs.declared.future_entry.FutureEntry.{FutureEntry}
@@ -35,8 +35,8 @@ use Rattle.mea_once.specs.declared.poll_reply.PollReply.{PollReply}
 use Rattle.mea_once.specs.Cores.{NamedCell, IsSoundCell, WaitsCell}
 use Rattle.mea_once.specs.Entries.{KeptCell, finished, stopped, waking, runs, of_running, keeps, HandsOn, RanAlone, left_by}
 use Rattle.mea_once.specs.Parts.{is_polled, cell_seen, future_seen, runner_of, is_caller, is_wait, fits, acquire_at, acquire_of, runs_at, is_running, StageFits, IsFuture, MayRun, Tied, Stands, Stepped}
-use Rattle.mea_once.proofs.OneCell.{free_where, holds_none, nobody_queued, runner_waits, runner_without, unqueued, runs_may, runs_not, keeps_waker, nobody_runs, held_few}
-use Rattle.mea_once.proofs.Steps.{Makes, handed, out_of_queue, out_of_waits, caller_shares, goes, all_set, empty_is}
+use Rattle.mea_once.proofs.OneCell.{free_where, holds_none, nobody_queued, runner_waits, runner_without, unqueued, runs_may, runs_not, keeps_waker, nobody_runs, held_few, changed}
+use Rattle.mea_once.proofs.Steps.{Makes, handed, out_of_queue, out_of_waits, caller_is, goes, all_set, empty_is}
 
 -- ---- an initialiser that keeps a waker
 runner_with : (r : Option NamedWaker) (f w : ℕ) → runs r f ≡ true → with_waker (runner_of r) f w ≡ (f, w) ∷ []
@@ -53,7 +53,7 @@ module _ (once : Bool) (e : KeptCell) (f : ℕ) (x : FutureEntry) (s : Stands on
   runner_out may = at x.stage refl
     where
       not_queued : (n : ℕ) → x.stage ≡ Queued n → (b : Bool) → is_caller x.errand ≡ b → StageFits b (Queued n) → ⊥
-      not_queued n is true caller is_it = absurd (let shares = caller_shares once e f x s x.errand caller in let idle : is_running x ≡ false = ap runs_at is in
+      not_queued n is true caller is_it = absurd (let shares = (caller_is once e f x s x.errand caller).1 in let idle : is_running x ≡ false = ap runs_at is in
           let no_turn : cond (is_alone x.errand) true (is_running x) ≡ false = ap (λ b. cond b true (is_running x)) shares ∙ idle in cc)
       not_queued n is false caller is_it = is_it
 
@@ -97,37 +97,13 @@ module _ (once : Bool) (e : KeptCell) (f : ℕ) (x : FutureEntry) (s : Stands on
     | false ↦ refl
   ]
 
-  settled_alone : (r : Initialiser) (j : Errand) → is_alone (settled r j) ≡ is_alone j
-  settled_alone r (Calls i) = refl
-  settled_alone r (Computes i) = refl
-  settled_alone r (Alone i) = refl
-  settled_alone r (Sets v) = refl
-  settled_alone r (Inserts v) = refl
-  settled_alone r Awaits = refl
-
-  settled_caller : (r : Initialiser) (j : Errand) → is_caller (settled r j) ≡ is_caller j
-  settled_caller r (Calls i) = refl
-  settled_caller r (Computes i) = refl
-  settled_caller r (Alone i) = refl
-  settled_caller r (Sets v) = refl
-  settled_caller r (Inserts v) = refl
-  settled_caller r Awaits = refl
-
-  settled_wait : (r : Initialiser) (j : Errand) → is_wait (settled r j) ≡ is_wait j
-  settled_wait r (Calls i) = refl
-  settled_wait r (Computes i) = refl
-  settled_wait r (Alone i) = refl
-  settled_wait r (Sets v) = refl
-  settled_wait r (Inserts v) = refl
-  settled_wait r Awaits = refl
+  settled_as : (r : Initialiser) (j : Errand) → (is_alone (settled r j) ≡ is_alone j) × (is_caller (settled r j) ≡ is_caller j) × (is_wait (settled r j) ≡ is_wait j)
+  settled_as r (Calls i) = (refl, refl, refl)
+  settled_as r _ = (refl, refl, refl)
 
   module _ (r : Initialiser) (fit : fits once (settled r x.errand) ≡ true) where
     abbrev y : FutureEntry
     y = record x { errand = settled r x.errand }
-
-    before_it : (g : ℕ) (z : FutureEntry) → get (insert s.fs f y) g ≡ Some z → (v : FutureEntry) × (get s.fs g ≡ Some v) × (is_alone v.errand ≡ is_alone z.errand)
-    before_it g z = by_put s.fs f y (λ g o. o ≡ Some z → (v : FutureEntry) × (get s.fs g ≡ Some v) × (is_alone v.errand ≡ is_alone z.errand))
-        (λ is. (x, s.there, sym (settled_alone r x.errand) ∙ ap (λ (x : FutureEntry). is_alone x.errand) (inside is))) (λ g apart is. (z, is, refl)) g
 
     kept_runner : (k : NamedWaker) (q : Option NamedWaker) → e.running ≡ q → cond (runs q f) None q ≡ Some k → e.running ≡ Some k
     kept_runner k None is it = absurd (cc)
@@ -138,20 +114,12 @@ module _ (once : Bool) (e : KeptCell) (f : ℕ) (x : FutureEntry) (s : Stands on
         at false it = is ∙ it
 
     tied_settled : Tied once (stopped e f) (insert s.fs f y)
-    tied_settled = record {
-      linked = rw (seen-insert acquire_of s.fs f y, insert_same (seen acquire_of s.fs) f (acquire_of x) (seen-at acquire_of s.fs f x s.there)) s.kept.tied.linked;
-      held = omega (arith, s.kept.tied.held, count-over s.fs f is_running y x s.there refl);
-      runner = λ k is. let it = s.kept.tied.runner k (kept_runner k e.running refl is) in
-          by_put s.fs f y (λ g o. (z : FutureEntry) → get s.fs g ≡ Some z → MayRun z → (v : FutureEntry) × (o ≡ Some v) × MayRun v)
-          (λ z is may. (y, refl, ap (λ b. cond b true (is_running x)) (settled_alone r x.errand) ∙ subst MayRun (inside (sym is ∙ s.there)) may)) (λ g apart z is may. (z, is, may)) k.future it.0 it.1 it.2;
-      each = by_put s.fs f y (λ g o. (z : FutureEntry) → o ≡ Some z → IsFuture once e.cell.waits g z)
-          (λ z is. subst (IsFuture once e.cell.waits f) (inside is) (let it = s.kept.tied.each f x s.there in
-          record { fits = fit; stage = subst (λ b. StageFits b x.stage) (sym (settled_caller r x.errand)) it.stage; slot = it.slot; place = λ none. it.place (sym (settled_wait r x.errand) ∙ none) }))
-          (λ g apart z is. s.kept.tied.each g z is);
-      single = λ g j a b one two alone. let first = before_it g a one in let second = before_it j b two in s.kept.tied.single g j first.0 second.0 first.1 second.1 (first.2 ∙ alone);
-      futures = omega (arith, s.kept.tied.futures, len-over s.fs f y x s.there);
-      alone = omega (arith, s.kept.tied.alone, count-over s.fs f (λ (x : FutureEntry). is_alone x.errand) y x s.there (settled_alone r x.errand));
-    }
+    tied_settled = changed once e s.fs s.kept.tied f x s.there e.cell (cond (runs e.running f) None e.running) y (settled_as r x.errand).0 (rw (insert_same (seen acquire_of s.fs) f (acquire_of x) (seen-at acquire_of s.fs f x s.there)) s.kept.tied.linked) refl
+        (λ k is. kept_runner k e.running refl is) (λ may. ap (λ b. cond b true (is_running x)) (settled_as r x.errand).0 ∙ may)
+        (by_put s.fs f y (λ g o. (z : FutureEntry) → o ≡ Some z → IsFuture once e.cell.waits g z)
+        (λ z is. subst (IsFuture once e.cell.waits f) (inside is) (let it = s.kept.tied.each f x s.there in
+        record { fits = fit; stage = subst (λ b. StageFits b x.stage) (sym (settled_as r x.errand).1) it.stage; slot = it.slot; place = λ none. it.place (sym (settled_as r x.errand).2 ∙ none) }))
+        (λ g apart z is. s.kept.tied.each g z is))
 
     pub settles : (before : Waking ℕ) → keeps e ≤ before.registered → Stepped once e s.fs s.n f x.cell (Some y) (model.settle f r (future_seen x) (cell_seen e)) answers.Done (stopped e f) before (waking e.running f before)
     settles before room = record {
@@ -167,37 +135,15 @@ module _ (once : Bool) (e : KeptCell) (f : ℕ) (x : FutureEntry) (s : Stands on
     }
 
   -- ---- a wait
-  wait_shares : (j : Errand) → is_wait j ≡ true → is_alone j ≡ false
-  wait_shares (Calls r) is = refl
-  wait_shares (Computes r) is = refl
-  wait_shares (Alone r) is = absurd (cc)
-  wait_shares (Sets v) is = refl
-  wait_shares (Inserts v) is = refl
-  wait_shares Awaits is = refl
+  -- what is so of it, and what it is told of a full cell
+  wait_is : (j : Errand) → is_wait j ≡ true → (is_alone j ≡ false) × (is_caller j ≡ false) × ((v : ℕ) → model.found_full j v ≡ answers.Ready) × ((w : ℕ) (c : Cell) → model.start_in f w (future_seen x) c j ≡ model.awaits f w (future_seen x) c)
+  wait_is Awaits is = (refl, refl, λ v. refl, λ w c. refl)
+  wait_is _ is = absurd (cc)
 
-  wait_asks_not : (j : Errand) → is_wait j ≡ true → is_caller j ≡ false
-  wait_asks_not (Calls r) is = absurd (cc)
-  wait_asks_not (Computes r) is = absurd (cc)
-  wait_asks_not (Alone r) is = refl
-  wait_asks_not (Sets v) is = absurd (cc)
-  wait_asks_not (Inserts v) is = absurd (cc)
-  wait_asks_not Awaits is = refl
-
-  alone_asks_not : (j : Errand) → is_alone j ≡ true → is_caller j ≡ false
-  alone_asks_not (Calls r) is = absurd (cc)
-  alone_asks_not (Computes r) is = absurd (cc)
-  alone_asks_not (Alone r) is = refl
-  alone_asks_not (Sets v) is = absurd (cc)
-  alone_asks_not (Inserts v) is = absurd (cc)
-  alone_asks_not Awaits is = absurd (cc)
-
-  alone_waits_not : (j : Errand) → is_alone j ≡ true → is_wait j ≡ false
-  alone_waits_not (Calls r) is = refl
-  alone_waits_not (Computes r) is = refl
-  alone_waits_not (Alone r) is = refl
-  alone_waits_not (Sets v) is = refl
-  alone_waits_not (Inserts v) is = refl
-  alone_waits_not Awaits is = absurd (cc)
+  alone_is : (j : Errand) → is_alone j ≡ true
+      → (is_caller j ≡ false) × (is_wait j ≡ false) × ((v : ℕ) → model.found_full j v ≡ answers.Value v) × ((v : ℕ) → model.has_filled j v ≡ answers.Value v) × ((w : ℕ) (c : Cell) → model.start_in f w (future_seen x) c j ≡ model.run f w (future_seen x) c (init_of j))
+  alone_is (Alone r) is = (refl, refl, λ v. refl, λ v. refl, λ w c. refl)
+  alone_is _ is = absurd (cc)
 
   -- who does not ask for a turn is in no stage of it
   at_first : is_caller x.errand ≡ false → x.stage ≡ New
@@ -210,34 +156,14 @@ module _ (once : Bool) (e : KeptCell) (f : ℕ) (x : FutureEntry) (s : Stands on
       at Done is it = absurd it
 
   wait_idle : is_wait x.errand ≡ true → runs e.running f ≡ false
-  wait_idle wait = runs_not once e s.fs s.kept.tied f x s.there (wait_shares x.errand wait) (ap runs_at (at_first (wait_asks_not x.errand wait)))
+  wait_idle wait = runs_not once e s.fs s.kept.tied f x s.there (wait_is x.errand wait).0 (ap runs_at (at_first (wait_is x.errand wait).1))
 
   first_out : is_caller x.errand ≡ false → waits (cell_seen e).queue f ≡ false
   first_out none = out_of_queue once e f x s New (at_first none) (λ n same. absurd (cc))
 
-  in_nothing : (ks : List NamedWaker) → length ks ≡ 0 → waits (names_of ks) f ≡ false
-  in_nothing [] is = refl
-  in_nothing (k ∷ ks) is = absurd (omega (arith, is))
-
-  start_wait : (w : ℕ) (j : Errand) (c : Cell) → is_wait j ≡ true → model.start_in f w (future_seen x) c j ≡ model.awaits f w (future_seen x) c
-  start_wait w (Calls r) c is = absurd (cc)
-  start_wait w (Computes r) c is = absurd (cc)
-  start_wait w (Alone r) c is = absurd (cc)
-  start_wait w (Sets v) c is = absurd (cc)
-  start_wait w (Inserts v) c is = absurd (cc)
-  start_wait w Awaits c is = refl
-
-  wait_full : (v : ℕ) (j : Errand) → is_wait j ≡ true → model.found_full j v ≡ answers.Ready
-  wait_full v (Calls r) is = refl
-  wait_full v (Computes r) is = absurd (cc)
-  wait_full v (Alone r) is = absurd (cc)
-  wait_full v (Sets u) is = absurd (cc)
-  wait_full v (Inserts u) is = absurd (cc)
-  wait_full v Awaits is = refl
-
-  value_there : (o : Option ℕ) → is_some o ≡ true → (v : ℕ) × (o ≡ Some v)
-  value_there None is = absurd (cc)
-  value_there (Some v) is = (v, refl)
+  no_waits : (ks : List NamedWaker) → length ks ≡ 0 → names_of ks ≡ []
+  no_waits [] is = refl
+  no_waits (k ∷ ks) is = absurd (omega (arith, is))
 
   quiet_length : length e.cell.permit.wakes ≡ 0
   quiet_length = ap length s.kept.quiet
@@ -250,21 +176,21 @@ module _ (once : Bool) (e : KeptCell) (f : ℕ) (x : FutureEntry) (s : Stands on
     Polls = model.poll f w (future_seen x) (cell_seen e)
 
     not_new : is_polled x.stage ≡ false
-    not_new = ap is_polled (at_first (wait_asks_not x.errand wait))
+    not_new = ap is_polled (at_first (wait_is x.errand wait).1)
 
     in_neither : Polls ≡ (if waits (set_names e.cell.waits) f then model.awaits f w (future_seen x) (cell_seen e) else if is_polled x.stage then model.take_turn f w (future_seen x) (cell_seen e) e.cell.value else model.start f w (future_seen x) (cell_seen e) e.cell.value)
-    in_neither = if_false (waits (cell_seen e).queue f) _ _ (first_out (wait_asks_not x.errand wait)) ∙ if_false (waits (runner_of e.running) f) _ _ (runner_waits e.running f ∙ wait_idle wait)
+    in_neither = if_false (waits (cell_seen e).queue f) _ _ (first_out (wait_is x.errand wait).1) ∙ if_false (waits (runner_of e.running) f) _ _ (runner_waits e.running f ∙ wait_idle wait)
 
     -- the cell is full
     waits_over : is_some e.cell.value ≡ true → (is_some e.cell.value ≡ true → length e.cell.waits.wakers ≡ 0) → Makes once e s.fs s.n f x.cell 1 answers.Ready None Polls (finished (stopped e f) x.errand)
     waits_over full drained =
-        let it = value_there e.cell.value full in
+        let it = value_in e.cell.value full in
         let told : Polls ≡ model.leaves (cell_seen e) answers.Ready [] =
-        in_neither ∙ if_false (waits (set_names e.cell.waits) f) _ _ (in_nothing e.cell.waits.wakers (drained full)) ∙ if_false (is_polled x.stage) _ _ not_new ∙ ap (model.start f w (future_seen x) (cell_seen e)) it.1
-        ∙ ap (λ a. model.leaves (cell_seen e) a []) (wait_full it.0 x.errand wait) in
+        in_neither ∙ if_false (waits (set_names e.cell.waits) f) _ _ (ap (λ q. waits q f) (no_waits e.cell.waits.wakers (drained full))) ∙ if_false (is_polled x.stage) _ _ not_new ∙ ap (model.start f w (future_seen x) (cell_seen e)) it.1
+        ∙ ap (λ a. model.leaves (cell_seen e) a []) ((wait_is x.errand wait).2 it.0) in
         rw told (goes once e f x s e.cell 1 (model.leaves (cell_seen e) answers.Ready []) answers.Ready refl refl s.kept.sound
-        (linked_gone e.cell.permit.queue e.cell.permit.granted (seen acquire_of s.fs) s.kept.tied.linked f (unqueued once e s.fs s.kept.tied f x s.there New (at_first (wait_asks_not x.errand wait)) (λ n same. absurd (cc))))
-        (let none : ◌≡◌ {A = ℕ} (cond (is_running x) 1 0) 0 = ap (λ s. cond (runs_at s) 1 0) (at_first (wait_asks_not x.errand wait)) in omega (arith, none)) (λ g y is. (s.kept.tied.each g y is).slot) s.low
+        (linked_gone e.cell.permit.queue e.cell.permit.granted (seen acquire_of s.fs) s.kept.tied.linked f (unqueued once e s.fs s.kept.tied f x s.there New (at_first (wait_is x.errand wait).1) (λ n same. absurd (cc))))
+        (let none : ◌≡◌ {A = ℕ} (cond (is_running x) 1 0) 0 = ap (λ s. cond (runs_at s) 1 0) (at_first (wait_is x.errand wait).1) in omega (arith, none)) (λ g y is. (s.kept.tied.each g y is).slot) s.low
         (λ i. record (cell_seen e) { runner = ap (λ b. runner_of (cond b None e.running)) (wait_idle wait) i }) (ap (λ (ks : List NamedWaker). map (λ (k : NamedWaker). k.waker) ks) s.kept.quiet) (omega (arith, quiet_length)))
 
     -- it is not
@@ -287,23 +213,11 @@ module _ (once : Bool) (e : KeptCell) (f : ℕ) (x : FutureEntry) (s : Stands on
       slots : (g : ℕ) (y : FutureEntry) → get (insert s.fs f z) g ≡ Some y → SlotIs c.waits g y.wait
       slots g y is = (links.each g y.wait (ap (λ m. get m g) (sym (seen-insert place_of s.fs f z)) ∙ seen-at place_of (insert s.fs f z) g y is)).1
 
-      before_wait : (g : ℕ) (y : FutureEntry) → get (insert s.fs f z) g ≡ Some y → (v : FutureEntry) × (get s.fs g ≡ Some v) × (v.errand ≡ y.errand)
-      before_wait g y = by_put s.fs f z (λ g o. o ≡ Some y → (v : FutureEntry) × (get s.fs g ≡ Some v) × (v.errand ≡ y.errand)) (λ is. (x, s.there, ap (λ (x : FutureEntry). x.errand) (inside is))) (λ g apart is. (y, is, refl)) g
-
       tied_waits : Tied once (record e { cell = c }) (insert s.fs f z)
-      tied_waits = record {
-        linked = rw (seen-insert acquire_of s.fs f z, insert_same (seen acquire_of s.fs) f (acquire_of x) (seen-at acquire_of s.fs f x s.there)) s.kept.tied.linked;
-        held = omega (arith, s.kept.tied.held, count-over s.fs f is_running z x s.there refl);
-        runner = λ j is. let it = s.kept.tied.runner j is in
-            by_put s.fs f z (λ g o. (y : FutureEntry) → get s.fs g ≡ Some y → MayRun y → (v : FutureEntry) × (o ≡ Some v) × MayRun v)
-            (λ y is may. (z, refl, subst MayRun (inside (sym is ∙ s.there)) may)) (λ g apart y is may. (y, is, may)) j.future it.0 it.1 it.2;
-        each = λ g y is. by_put s.fs f z (λ g o. (y : FutureEntry) → o ≡ Some y → SlotIs c.waits g y.wait → IsFuture once c.waits g y)
-            (λ y is slot. subst (λ y. SlotIs c.waits f y.wait → IsFuture once c.waits f y) (inside is) (λ slot. let it = s.kept.tied.each f x s.there in record { fits = it.fits; stage = it.stage; slot = slot; place = λ none. absurd (cc) }) slot)
-            (λ g apart y is slot. let it = s.kept.tied.each g y is in record { fits = it.fits; stage = it.stage; slot = slot; place = it.place }) g y is (slots g y is);
-        single = λ g j a b one two alone. let first = before_wait g a one in let second = before_wait j b two in s.kept.tied.single g j first.0 second.0 first.1 second.1 (ap is_alone first.2 ∙ alone);
-        futures = omega (arith, s.kept.tied.futures, len-over s.fs f z x s.there);
-        alone = omega (arith, s.kept.tied.alone, count-over s.fs f (λ (x : FutureEntry). is_alone x.errand) z x s.there refl);
-      }
+      tied_waits = changed once e s.fs s.kept.tied f x s.there c e.running z refl (rw (insert_same (seen acquire_of s.fs) f (acquire_of x) (seen-at acquire_of s.fs f x s.there)) s.kept.tied.linked) refl (λ j is. is) (λ may. may)
+          (λ g y is. by_put s.fs f z (λ g o. (y : FutureEntry) → o ≡ Some y → SlotIs c.waits g y.wait → IsFuture once c.waits g y)
+          (λ y is slot. subst (λ y. SlotIs c.waits f y.wait → IsFuture once c.waits f y) (inside is) (λ slot. let it = s.kept.tied.each f x s.there in record { fits = it.fits; stage = it.stage; slot = slot; place = λ none. absurd (cc) }) slot)
+          (λ g apart y is slot. let it = s.kept.tied.each g y is in record { fits = it.fits; stage = it.stage; slot = slot; place = it.place }) g y is (slots g y is))
 
       length_registering : (q : Waiting) → length (registering q f w) ≤ length q + 1
       length_registering [] = omega arith
@@ -314,7 +228,7 @@ module _ (once : Bool) (e : KeptCell) (f : ℕ) (x : FutureEntry) (s : Stands on
           let names : set_names c.waits ≡ registering (set_names e.cell.waits) f w = registered_names e.cell.waits (seen place_of s.fs) s.n f w x.wait (all_set once e f x s) its_place in
           let none : e.cell.value ≡ None = empty_is once e f x s e.cell.value empty in
           let later : (if is_polled x.stage then model.take_turn f w (future_seen x) (cell_seen e) e.cell.value else model.start f w (future_seen x) (cell_seen e) e.cell.value) ≡ model.awaits f w (future_seen x) (cell_seen e) =
-          if_false (is_polled x.stage) _ _ not_new ∙ ap (model.start f w (future_seen x) (cell_seen e)) none ∙ start_wait w x.errand (cell_seen e) wait in
+          if_false (is_polled x.stage) _ _ not_new ∙ ap (model.start f w (future_seen x) (cell_seen e)) none ∙ (wait_is x.errand wait).3 w (cell_seen e) in
           let told : Polls ≡ model.awaits f w (future_seen x) (cell_seen e) = in_neither ∙ either (waits (set_names e.cell.waits) f) (model.awaits f w (future_seen x) (cell_seen e)) _ later in
           rw told (record {
             replied = refl;
@@ -344,19 +258,11 @@ module _ (once : Bool) (e : KeptCell) (f : ℕ) (x : FutureEntry) (s : Stands on
     Alone_polls = model.poll f w (future_seen x) (cell_seen e)
 
     first_stage : x.stage ≡ New
-    first_stage = at_first (alone_asks_not x.errand alone)
+    first_stage = at_first (alone_is x.errand alone).0
 
     alone_starts : Alone_polls ≡ model.start f w (future_seen x) (cell_seen e) e.cell.value
-    alone_starts = if_false (waits (cell_seen e).queue f) _ _ (first_out (alone_asks_not x.errand alone)) ∙ if_false (waits (runner_of e.running) f) _ _ (runner_waits e.running f ∙ idle)
-        ∙ if_false (waits (set_names e.cell.waits) f) _ _ (out_of_waits once e f x s (alone_waits_not x.errand alone)) ∙ if_false (is_polled x.stage) _ _ (ap is_polled first_stage)
-
-    alone_runs : (j : Errand) (c : Cell) → is_alone j ≡ true → model.start_in f w (future_seen x) c j ≡ model.run f w (future_seen x) c (init_of j)
-    alone_runs (Calls r) c is = absurd (cc)
-    alone_runs (Computes r) c is = absurd (cc)
-    alone_runs (Alone r) c is = refl
-    alone_runs (Sets v) c is = absurd (cc)
-    alone_runs (Inserts v) c is = absurd (cc)
-    alone_runs Awaits c is = absurd (cc)
+    alone_starts = if_false (waits (cell_seen e).queue f) _ _ (first_out (alone_is x.errand alone).0) ∙ if_false (waits (runner_of e.running) f) _ _ (runner_waits e.running f ∙ idle)
+        ∙ if_false (waits (set_names e.cell.waits) f) _ _ (out_of_waits once e f x s (alone_is x.errand alone).1) ∙ if_false (is_polled x.stage) _ _ (ap is_polled first_stage)
 
     alone_no_number : Linked e.cell.permit.queue e.cell.permit.granted (remove (seen acquire_of s.fs) f)
     alone_no_number = linked_gone e.cell.permit.queue e.cell.permit.granted (seen acquire_of s.fs) s.kept.tied.linked f (unqueued once e s.fs s.kept.tied f x s.there New first_stage (λ n same. absurd (cc)))
@@ -400,28 +306,8 @@ module _ (once : Bool) (e : KeptCell) (f : ℕ) (x : FutureEntry) (s : Stands on
     alone_told : (v : Option ℕ) → e.cell.value ≡ v → Alone_polls ≡ model.start f w (future_seen x) (cell_seen e) v
     alone_told v is = alone_starts ∙ ap (model.start f w (future_seen x) (cell_seen e)) is
 
-    full_alone : (v : ℕ) (j : Errand) → is_alone j ≡ true → model.found_full j v ≡ answers.Value v
-    full_alone v (Calls r) is = absurd (cc)
-    full_alone v (Computes r) is = absurd (cc)
-    full_alone v (Alone r) is = refl
-    full_alone v (Sets u) is = absurd (cc)
-    full_alone v (Inserts u) is = absurd (cc)
-    full_alone v Awaits is = absurd (cc)
-
-    filled_alone : (v : ℕ) (j : Errand) → is_alone j ≡ true → model.has_filled j v ≡ answers.Value v
-    filled_alone v (Calls r) is = absurd (cc)
-    filled_alone v (Computes r) is = absurd (cc)
-    filled_alone v (Alone r) is = refl
-    filled_alone v (Sets u) is = absurd (cc)
-    filled_alone v (Inserts u) is = absurd (cc)
-    filled_alone v Awaits is = absurd (cc)
-
     -- nobody waits until the cell is full, since it is none that runs once
     module _ (none_waits : length e.cell.waits.wakers ≡ 0) where
-      no_waits : (ks : List NamedWaker) → length ks ≡ 0 → names_of ks ≡ []
-      no_waits [] is = refl
-      no_waits (k ∷ ks) is = absurd (omega (arith, is))
-
       abbrev Gone : NamedCell → KeptCell
       Gone c = finished (stopped (record e { cell = c }) f) x.errand
 
@@ -440,13 +326,13 @@ module _ (once : Bool) (e : KeptCell) (f : ℕ) (x : FutureEntry) (s : Stands on
           ∙ (λ i. record (cell_seen e) { taken = sym (ap (λ n. n == 0) alone_free) i; queue = who (names_in (sym none_queued i)); runner = [] })
 
       pub alone_full : (v : ℕ) → e.cell.value ≡ Some v → Makes once e s.fs s.n f x.cell 1 (answers.Value v) None Alone_polls (Gone e.cell)
-      alone_full v is = rw (alone_told (Some v) is ∙ ap (λ a. model.leaves (cell_seen e) a []) (full_alone v x.errand alone))
+      alone_full v is = rw (alone_told (Some v) is ∙ ap (λ a. model.leaves (cell_seen e) a []) ((alone_is x.errand alone).2 v))
           (alone_leaves e.cell.value (model.leaves (cell_seen e) (answers.Value v) []) (answers.Value v) refl refl refl (λ i. record (cell_seen e) { runner = runner_of (sym no_runner i) }) s.kept.sound)
 
       pub alone_made : (v : ℕ) → e.cell.value ≡ None → init_of x.errand ≡ Gives v → IsSoundCell (record e.cell { value = Some v }) → Makes once e s.fs s.n f x.cell 1 (answers.Value v) None Alone_polls (Gone (record e.cell { value = Some v }))
       alone_made v is gives sound =
           let told : Alone_polls ≡ model.leaves (model.filled f v (cell_seen e)) (answers.Value v) (wakers (set_names e.cell.waits) ++ model.woken_next (cell_seen e).queue) =
-          alone_told None is ∙ alone_runs x.errand (cell_seen e) alone ∙ ap (model.run f w (future_seen x) (cell_seen e)) gives ∙ ap (λ a. model.leaves (model.filled f v (cell_seen e)) a (wakers (set_names e.cell.waits) ++ model.woken_next (cell_seen e).queue)) (filled_alone v x.errand alone) in
+          alone_told None is ∙ (alone_is x.errand alone).4 w (cell_seen e) ∙ ap (model.run f w (future_seen x) (cell_seen e)) gives ∙ ap (λ a. model.leaves (model.filled f v (cell_seen e)) a (wakers (set_names e.cell.waits) ++ model.woken_next (cell_seen e).queue)) ((alone_is x.errand alone).3 v) in
           rw told (alone_leaves (Some v) (model.leaves (model.filled f v (cell_seen e)) (answers.Value v) (wakers (set_names e.cell.waits) ++ model.woken_next (cell_seen e).queue)) (answers.Value v) refl refl
           (λ i. wakers (no_waits e.cell.waits.wakers none_waits i) ++ model.woken_next (who (names_in (none_queued i))))
           (sym ((λ i. model.passed (who (names_in (none_queued i))) (record (cell_seen e) { value = Some v; queue = who (names_in (none_queued i)); runner = (runner_without e.running f ∙ ap (λ r. runner_of (cond (runs r f) None r)) no_runner) i; waits = sym (no_waits e.cell.waits.wakers none_waits) i }))
@@ -455,14 +341,14 @@ module _ (once : Bool) (e : KeptCell) (f : ℕ) (x : FutureEntry) (s : Stands on
       pub alone_failed : (z : ℕ) → e.cell.value ≡ None → init_of x.errand ≡ Fails z → Makes once e s.fs s.n f x.cell 1 (answers.Failure z) None Alone_polls (Gone e.cell)
       alone_failed z is fails =
           let told : Alone_polls ≡ model.leaves (model.given_up f (cell_seen e)) (answers.Failure z) (model.woken_next (cell_seen e).queue) =
-          alone_told None is ∙ alone_runs x.errand (cell_seen e) alone ∙ ap (model.run f w (future_seen x) (cell_seen e)) fails in
+          alone_told None is ∙ (alone_is x.errand alone).4 w (cell_seen e) ∙ ap (model.run f w (future_seen x) (cell_seen e)) fails in
           rw told (alone_leaves e.cell.value (model.leaves (model.given_up f (cell_seen e)) (answers.Failure z) (model.woken_next (cell_seen e).queue)) (answers.Failure z) refl refl
           (λ i. model.woken_next (who (names_in (none_queued i)))) (sym no_more) s.kept.sound)
 
     pub alone_pends : e.cell.value ≡ None → init_of x.errand ≡ Unsettled → Makes once e s.fs s.n f x.cell 1 answers.Pending (Some x) Alone_polls (record e { running = Some j })
     alone_pends is opened =
         let told : Alone_polls ≡ model.pends (record (future_seen x) { polled = not (is_alone x.errand) }) (record (cell_seen e) { runner = runner_of e.running ++ (f, w) ∷ [] }) =
-        alone_told None is ∙ alone_runs x.errand (cell_seen e) alone ∙ ap (model.run f w (future_seen x) (cell_seen e)) opened in
+        alone_told None is ∙ (alone_is x.errand alone).4 w (cell_seen e) ∙ ap (model.run f w (future_seen x) (cell_seen e)) opened in
         rw told (record {
           replied = refl;
           cell = λ i. record (cell_seen e) { runner = runner_of (sym no_runner i) ++ (f, w) ∷ [] };
@@ -499,9 +385,9 @@ waker_of f w = record { future = f; waker = w }
 -- a future that uses its cell alone ran
 alone_ran : (once : Bool) (e : KeptCell) (f w : ℕ) (x : FutureEntry) (s : Stands once e f x) (alone : is_alone x.errand ≡ true) (idle : runs e.running f ≡ false) (v : Option ℕ) (r : Initialiser) (told : PollReply) (e2 : KeptCell) → e.cell.value ≡ v → init_of x.errand ≡ r → length e.cell.waits.wakers ≡ 0
     → RanAlone v r e (waker_of f w) x.errand told e2 → IsSoundCell e2.cell → Makes once e s.fs s.n f x.cell 1 told.answer (left_by told.over x) (model.poll f w (future_seen x) (cell_seen e)) e2
-alone_ran once e f w x s alone idle (Some v) r told e2 is it none ran sound = rw (ran.0, ran.1, full_alone once e f x s w alone idle v x.errand alone) (alone_full once e f x s w alone idle none v is)
+alone_ran once e f w x s alone idle (Some v) r told e2 is it none ran sound = rw (ran.0, ran.1, (alone_is once e f x s x.errand alone).2 v) (alone_full once e f x s w alone idle none v is)
 alone_ran once e f w x s alone idle None Unsettled told e2 is it none ran sound = rw (ran.0, ran.1) (alone_pends once e f x s w alone idle is it)
-alone_ran once e f w x s alone idle None (Gives v) told e2 is it none ran sound = rw (ran.0, ran.1, full_alone once e f x s w alone idle v x.errand alone) (alone_made once e f x s w alone idle none v is it (subst (λ (e : KeptCell). IsSoundCell e.cell) ran.1 sound))
+alone_ran once e f w x s alone idle None (Gives v) told e2 is it none ran sound = rw (ran.0, ran.1, (alone_is once e f x s x.errand alone).2 v) (alone_made once e f x s w alone idle none v is it (subst (λ (e : KeptCell). IsSoundCell e.cell) ran.1 sound))
 alone_ran once e f w x s alone idle None (Fails z) told e2 is it none ran sound = rw (ran.0, ran.1) (alone_failed once e f x s w alone idle none z is it)
 
 pub alone_fits : (once : Bool) (e : KeptCell) (f w : ℕ) (x : FutureEntry) (told : PollReply) (e2 : KeptCell) (more : ℕ) → Stands once e f x → is_alone x.errand ≡ true → runs e.running f ≡ false → length e.cell.waits.wakers ≡ 0 → RanAlone e.cell.value (init_of x.errand) e (waker_of f w) x.errand told e2

@@ -188,17 +188,17 @@ module _ (s : Core NamedWaker) (is : IsOnePermit s) where
 
 -- ---- a poll for a turn, and an end
 module _ (s : Core NamedWaker) (is : IsOnePermit s) where
+  late : (n : ℕ) → IsNext s n → IsOnePermit (passed_on (taken s is n)) × HoldsAs s (Queued n) (passed_on (taken s is n)) Done
+  late n next =
+      let took = took_next s is n next in
+      let all = shares s is in
+      let some = sum_without s.granted n 1 next in
+      let passed = passed_one (taken s is n) took.0 (omega (arith, took.1)) in
+      (passed.0, omega (arith, passed.1))
+
   pub turned_one : (full : Bool) (w : NamedWaker) (stage after : CellStage) (turn : CellTurn NamedWaker) (t : Core NamedWaker) → TurnsTo full s w stage turn t after → IsOnePermit t × HoldsAs s stage t after
   turned_one full w _ _ _ _ (FindsFull full_now) = (is, refl)
   turned_one full w _ _ _ _ (FindsLate n next full_now) = late n next
-    where
-      late : (n : ℕ) → IsNext s n → IsOnePermit (passed_on (taken s is n)) × HoldsAs s (Queued n) (passed_on (taken s is n)) Done
-      late n next =
-          let took = took_next s is n next in
-          let all = shares s is in
-          let some = sum_without s.granted n 1 next in
-          let passed = passed_one (taken s is n) took.0 (omega (arith, took.1)) in
-          (passed.0, omega (arith, passed.1))
   turned_one full w _ _ _ _ (TakesFree empty one) = took_free s is one
   turned_one full w _ _ _ _ (TakesNext n next empty) = took_next s is n next
   turned_one full w _ _ _ _ (GoesOn empty) = (is, refl)
@@ -206,13 +206,7 @@ module _ (s : Core NamedWaker) (is : IsOnePermit s) where
   turned_one full w _ _ _ _ (WaitsOn n waits) = waited_on s is w n
 
   pub left_one : (stage : CellStage) (t : Core NamedWaker) → MayEnd s stage → Leaves s stage t → IsOnePermit t × (held_of t + held_at stage ≡ held_of s)
-  left_one New t may leaves = rw leaves (is, omega arith)
-  left_one (Queued n) t (inl next) leaves =
-      let took = took_next s is n next in
-      let all = shares s is in
-      let some = sum_without s.granted n 1 next in
-      let passed = passed_one (taken s is n) took.0 (omega (arith, took.1)) in
-      rw (leaves.0 next) (passed.0, omega (arith, passed.1))
+  left_one (Queued n) t (inl next) leaves = rw (leaves.0 next) (let it = late n next in (it.0, omega (arith, it.1)))
   left_one (Queued n) t (inr waits) leaves = rw (leaves.1 waits) (let it = left_queue s is n in (it.0, omega (arith, it.1)))
   left_one Running t may leaves = rw leaves (let passed = passed_one s is may in let all = shares s is in (passed.0, omega (arith, passed.1)))
-  left_one Done t may leaves = rw leaves (is, omega arith)
+  left_one _ t may leaves = rw leaves (is, omega arith)

@@ -33,14 +33,15 @@ use Rattle.mea_once_core.specs.declared.cell_turn.CellTurn.{CellTurn}
 use Rattle.mea_once_model.specs.declared.errand.Initialiser.{Initialiser}
 use Rattle.mea_once_model.specs.declared.errand.Initialiser.TheVariants.{Unsettled, Gives, Fails}
 use Rattle.mea_once_model.specs.declared.errand.Errand.{Errand}
-use Rattle.mea_once_model.specs.declared.errand.Errand.TheVariants.{Calls, Computes, Alone, Sets, Inserts, Awaits}
+use Rattle.mea_once_model.specs.declared.errand.Errand.TheVariants.{Alone, Awaits}
 use Rattle.mea_once_model.specs.Cells as model
-use Rattle.mea_once_model.specs.Cells.{Cell, CellFuture, Step, init_of, is_alone, passed, woken_next, given_up, found_full, has_filled}
+use Rattle.mea_once_model.specs.Cells.{Cell, CellFuture, Step, init_of, is_alone, passed, woken_next, given_up, found_full, has_filled, turned_to}
 use Rattle.mea_once.specs.declared.future_entry.FutureEntry.{FutureEntry}
 use Rattle.mea_once.specs.declared.poll_reply.PollReply.{PollReply}
 use Rattle.mea_once.specs.Cores.{NamedCell, IsSoundCell, TurnsTo, FindsFull, FindsLate, TakesFree, TakesNext, GoesOn, LinesUp, WaitsOn, TurnsCell, TurnFits, TurnIsQuiet, Drains, LeavesCell}
-use Rattle.mea_once.specs.Entries.{KeptCell, finished, stopped, runs, of_running, keeps, HandsOn, Ran, Follows, left_by}
-use Rattle.mea_once.specs.Parts.{is_polled, cell_seen, future_seen, runner_of, is_caller, is_wait, acquire_at, acquire_of, runs_at, is_running, StageFits, MayRun, Tied, AreKept, Stands, Stepped, turned_to, IsOf}
+use Rattle.mea_once.specs.Entries.{KeptCell, finished, stopped, runs, of_running, keeps, HandsOn, Ran, Follows, left_by, rested}
+use Rattle.mea_once.specs.PartForm.{IsOf}
+use Rattle.mea_once.specs.Parts.{is_polled, cell_seen, future_seen, runner_of, is_caller, is_wait, acquire_at, acquire_of, runs_at, is_running, StageFits, MayRun, Tied, AreKept, Stands, Stepped, of_future}
 use Rattle.mea_once.proofs.Turns.{permit_with}
 use Rattle.mea_once.proofs.OneCell.{Queue, length-with, length-without, fits_any, running_held, no_debts, pass_linked, seen_with, pass_seen, woken_in, pass_woken, pass_length, runner_waits, runner_without, absent_waits, held_is, its_acquire, unqueued, still_insert, runs_not, turned, departs, keeps_waker, nobody_runs, not_waiting, not_granted, held_few}
 
@@ -49,13 +50,21 @@ pub record Makes (once : Bool) (old : KeptCell) (fs : Names FutureEntry) (n f o 
   pub replied : answer ≡ s.reply
   pub cell : cell_seen new ≡ s.cell
   pub future : option_map future_seen p ≡ s.future
-  pub mine : IsOf p o
+  pub mine : IsOf of_future p o
   pub woken : woken_in new.cell.permit.wakes ≡ s.wakes
   pub sound : IsSoundCell new.cell
   pub tied : Tied once new (turned_to fs f p)
   pub few : new.futures ≤ old.futures + 1
   pub low : AreBelow new.cell.waits.wakers n
   pub fit : keeps new + length new.cell.permit.wakes ≤ keeps old + more
+
+-- a cell and its futures, once the wakers that are ready have gone
+pub at_rest : (once : Bool) (e : KeptCell) (fs : Names FutureEntry) → IsSoundCell e.cell → Tied once e fs → AreKept once (record e { cell = rested e.cell }) fs
+at_rest once e fs sound tied = record {
+  sound = record { permit = permit_with e.cell.permit [] sound.permit; empty = sound.empty };
+  quiet = refl;
+  tied = record { linked = tied.linked; held = tied.held; runner = tied.runner; each = tied.each; single = tied.single; futures = tied.futures; alone = tied.alone };
+}
 
 -- and after that
 pub handed : (once : Bool) (old : KeptCell) (fs : Names FutureEntry) (n f o more : ℕ) (answer : Answer) (p : Option FutureEntry) (s : Step) (e new : KeptCell) (before ready after : Waking ℕ) → Makes once old fs n f o more answer p s e → HandsOn e new (keeps old + more) ready after
@@ -69,26 +78,10 @@ handed once old fs n f o more answer p s e new before ready after makes hands sa
       mine = makes.mine;
       woken = hands.wakers ∙ (λ i. same i ++ makes.woken i);
       counted = omega (arith, hands.counted, kept, grown);
-      kept = subst (λ e. AreKept once e (turned_to fs f p)) (sym hands.entry) (record {
-        sound = record { permit = permit_with e.cell.permit [] makes.sound.permit; empty = makes.sound.empty };
-        quiet = refl;
-        tied = record {
-          linked = makes.tied.linked;
-          held = makes.tied.held;
-          runner = makes.tied.runner;
-          each = makes.tied.each;
-          single = makes.tied.single;
-          futures = makes.tied.futures;
-          alone = makes.tied.alone;
-        };
-      });
+      kept = subst (λ e. AreKept once e (turned_to fs f p)) (sym hands.entry) (at_rest once e (turned_to fs f p) makes.sound makes.tied);
       few = subst (λ (e : KeptCell). e.futures ≤ old.futures + 1) (sym hands.entry) makes.few;
       low = subst (λ (e : KeptCell). AreBelow e.cell.waits.wakers n) (sym hands.entry) makes.low;
     }
-
-length-map : (ws : List NamedWaker) → length (woken_in ws) ≡ length ws
-length-map [] = refl
-length-map (k ∷ ws) = omega (arith, length-map ws)
 
 names-woken : (ks : List NamedWaker) → wakers (names_of ks) ≡ woken_in ks
 names-woken [] = refl
@@ -136,34 +129,16 @@ module _ (once : Bool) (e : KeptCell) (f : ℕ) (x : FutureEntry) (s : Stands on
       let it = tie.each f x s.there in
       absent_waits e.cell.waits.wakers f (it.slot.absent (ap (is_registered e.cell.waits) (it.place none)))
 
-  caller_no_wait : (j : Errand) → is_caller j ≡ true → is_wait j ≡ false
-  caller_no_wait (Calls r) is = refl
-  caller_no_wait (Computes r) is = refl
-  caller_no_wait (Alone r) is = absurd (cc)
-  caller_no_wait (Sets v) is = refl
-  caller_no_wait (Inserts v) is = refl
-  caller_no_wait Awaits is = absurd (cc)
-
-  pub caller_shares : (j : Errand) → is_caller j ≡ true → is_alone j ≡ false
-  caller_shares (Calls r) is = refl
-  caller_shares (Computes r) is = refl
-  caller_shares (Alone r) is = absurd (cc)
-  caller_shares (Sets v) is = refl
-  caller_shares (Inserts v) is = refl
-  caller_shares Awaits is = absurd (cc)
+  -- a caller neither waits until the cell is full nor uses it alone, and asks for a turn at first
+  pub caller_is : (j : Errand) → is_caller j ≡ true → (is_wait j ≡ false) × (is_alone j ≡ false) × ((w : ℕ) (c : Cell) → model.start_in f w seen_future c j ≡ model.ask f w seen_future c (init_of j))
+  caller_is (Alone r) is = absurd (cc)
+  caller_is Awaits is = absurd (cc)
+  caller_is _ is = (refl, refl, λ w c. refl)
 
   -- it is polled where it waits nowhere
   poll_on : (w : ℕ) → waits seen_cell.queue f ≡ false → runs e.running f ≡ false → waits seen_cell.waits f ≡ false
       → model.poll f w seen_future seen_cell ≡ (if seen_future.polled then model.take_turn f w seen_future seen_cell seen_cell.value else model.start f w seen_future seen_cell seen_cell.value)
   poll_on w out idle apart_of = if_false (waits seen_cell.queue f) _ _ out ∙ if_false (waits seen_cell.runner f) _ _ (runner_waits e.running f ∙ idle) ∙ if_false (waits seen_cell.waits f) _ _ apart_of
-
-  starts_asking : (w : ℕ) (j : Errand) (c : Cell) → is_caller j ≡ true → model.start_in f w seen_future c j ≡ model.ask f w seen_future c (init_of j)
-  starts_asking w (Calls r) c is = refl
-  starts_asking w (Computes r) c is = refl
-  starts_asking w (Alone r) c is = absurd (cc)
-  starts_asking w (Sets v) c is = refl
-  starts_asking w (Inserts v) c is = refl
-  starts_asking w Awaits c is = absurd (cc)
 
   pub empty_is : {A : Type 0} (o : Option A) → is_some o ≡ false → o ≡ None
   empty_is None is = refl
@@ -241,21 +216,10 @@ module _ (once : Bool) (e : KeptCell) (f : ℕ) (x : FutureEntry) (s : Stands on
     below = s.low;
   }
 
-  slots_drained : (set : Registered NamedWaker) → Drains e.cell.waits set → (g : ℕ) (y : FutureEntry) → get s.fs g ≡ Some y → SlotIs set g y.wait
-  slots_drained set (inl is) g y there = rw is (((drained_links e.cell.waits (seen place_of s.fs) s.n all_set).each g y.wait (seen-at place_of s.fs g y there)).1)
-  slots_drained set (inr is) g y there = rw is.1 (slots_same g y there)
-
-  names_drained : (set : Registered NamedWaker) → Drains e.cell.waits set → set_names set ≡ []
-  names_drained set (inl is) = ap set_names is
-  names_drained set (inr is) = ap set_names is.1 ∙ ap names_of is.0
-
-  low_drained : (set : Registered NamedWaker) → Drains e.cell.waits set → AreBelow set.wakers s.n
-  low_drained set (inl is) = rw is tt
-  low_drained set (inr is) = rw is.1 s.low
-
-  length_drained : (set : Registered NamedWaker) → Drains e.cell.waits set → length set.wakers ≡ 0
-  length_drained set (inl is) = ap (λ (s : Registered NamedWaker). length s.wakers) is
-  length_drained set (inr is) = ap (λ (s : Registered NamedWaker). length s.wakers) is.1 ∙ ap (λ (ks : List NamedWaker). length ks) is.0
+  drained : (set : Registered NamedWaker) → Drains e.cell.waits set
+      → ((g : ℕ) (y : FutureEntry) → get s.fs g ≡ Some y → SlotIs set g y.wait) × (set_names set ≡ []) × AreBelow set.wakers s.n × (length set.wakers ≡ 0)
+  drained set (inl is) = rw is (λ g y there. ((drained_links e.cell.waits (seen place_of s.fs) s.n all_set).each g y.wait (seen-at place_of s.fs g y there)).1, refl, tt, refl)
+  drained set (inr is) = rw is.1 (slots_same, ap names_of is.0, s.low, ap (λ (ks : List NamedWaker). length ks) is.0)
 
   -- ---- its turn has come: the permit is this, and it runs
   module _ (p : Core NamedWaker) (caller : is_caller x.errand ≡ true) (w : ℕ) (idle : runs e.running f ≡ false) (of_queue : p.queue ≡ permit.queue) (quiet : p.wakes ≡ []) (held : HoldsAs permit x.stage p Running) (sound : IsSoundCell (record e.cell { permit = p }))
@@ -286,7 +250,7 @@ module _ (once : Bool) (e : KeptCell) (f : ℕ) (x : FutureEntry) (s : Stands on
     mid = turned once e s.fs tie f x s.there (record e.cell { permit = p }) Running (stage_fits (is_caller x.errand) caller) (λ is. refl) again held refl
 
     shares : is_alone x.errand ≡ false
-    shares = caller_shares x.errand caller
+    shares = (caller_is x.errand caller).1
 
     may : MayRun y
     may = ap (λ b. cond b true true) shares
@@ -312,9 +276,9 @@ module _ (once : Bool) (e : KeptCell) (f : ℕ) (x : FutureEntry) (s : Stands on
     })
     run_makes (Gives v) told e2 (c, fills, told_is, e2_is) = rw (told_is, e2_is)
         (gone (record p { wakes = e.cell.waits.wakers }) c (Some v) [] 1 (model.run f w seen_future (cell_seen e1) (Gives v)) (has_filled x.errand v) of_queue fills.permit fills.sound linked
-        (omega (arith, fills.held, its_share)) (slots_drained c.waits fills.waits) (low_drained c.waits fills.waits) refl refl fills.value (names_drained c.waits fills.waits)
+        (omega (arith, fills.held, its_share)) (drained c.waits fills.waits).0 (drained c.waits fills.waits).2 refl refl fills.value (drained c.waits fills.waits).1
         (λ i. passed (who (names_in (sym of_queue i))) (record { value = Some v; taken = p.free == 0; queue = who (names_in (sym of_queue i)); runner = without seen_cell.runner f; waits = [] }))
-        (λ i. sym (names-woken e.cell.waits.wakers) i ++ woken_next (who (names_in (sym of_queue i)))) (omega (arith, length_drained c.waits fills.waits)))
+        (λ i. sym (names-woken e.cell.waits.wakers) i ++ woken_next (who (names_in (sym of_queue i)))) (omega (arith, (drained c.waits fills.waits).3)))
     run_makes (Fails z) told e2 (c, gives, told_is, e2_is) = rw (told_is, e2_is)
         (gone p c e.cell.value (set_names e.cell.waits) 1 (model.run f w seen_future (cell_seen e1) (Fails z)) (answers.Failure z) of_queue (ap (λ (c : NamedCell). c.permit) gives.cell) gives.sound linked
         (omega (arith, gives.held, its_share)) (rw gives.cell slots_same) (rw gives.cell s.low) refl refl (ap (λ (c : NamedCell). c.value) gives.cell) (ap (λ (c : NamedCell). set_names c.waits) gives.cell)
@@ -335,7 +299,7 @@ module _ (once : Bool) (e : KeptCell) (f : ℕ) (x : FutureEntry) (s : Stands on
     Polls = model.poll f w seen_future seen_cell
 
     unwaited : waits seen_cell.waits f ≡ false
-    unwaited = out_of_waits (caller_no_wait x.errand caller)
+    unwaited = out_of_waits (caller_is x.errand caller).0
 
     -- by its stage, where it waits nowhere
     first_poll : x.stage ≡ New → (v : Option ℕ) → e.cell.value ≡ v → Polls ≡ model.start f w seen_future seen_cell v
@@ -370,9 +334,9 @@ module _ (once : Bool) (e : KeptCell) (f : ℕ) (x : FutureEntry) (s : Stands on
         without_idle : without (runner_of e.running) f ≡ runner_of e.running
         without_idle = runner_without e.running f ∙ ap (λ b. runner_of (cond b None e.running)) idle
     at_new turn p t new (TakesFree empty free) held sound told e2 follows =
-        rw (first_poll new None (empty_is e.cell.value empty) ∙ starts_asking w x.errand seen_cell caller ∙ if_false seen_cell.taken _ _ (ap (λ n. n == 0) free))
+        rw (first_poll new None (empty_is e.cell.value empty) ∙ (caller_is x.errand caller).2 w seen_cell ∙ if_false seen_cell.taken _ _ (ap (λ n. n == 0) free))
         (run_makes (record permit { free = 0 }) caller w idle refl s.kept.quiet held sound (no_number New new (λ n is. absurd (cc))) (rw (still_insert once e s.fs tie f x s.there New new) tie.linked) (init_of x.errand) told e2 follows)
-    at_new turn p t new (LinesUp n q empty taken waits_as) held sound told e2 follows = rw (follows.0, follows.1, first_poll new None (empty_is e.cell.value empty) ∙ starts_asking w x.errand seen_cell caller ∙ if_true seen_cell.taken _ _ (ap (λ n. n == 0) taken))
+    at_new turn p t new (LinesUp n q empty taken waits_as) held sound told e2 follows = rw (follows.0, follows.1, first_poll new None (empty_is e.cell.value empty) ∙ (caller_is x.errand caller).2 w seen_cell ∙ if_true seen_cell.taken _ _ (ap (λ n. n == 0) taken))
         (waits_on (record e.cell { permit = q }) (Queued n) w refl sound
         (turned once e s.fs tie f x s.there (record e.cell { permit = q }) (Queued n) (queued_fits n (is_caller x.errand) caller) (λ is. absurd (let no : runs_at x.stage ≡ false = ap runs_at new in cc))
         (rw waits_as.is (linked_pushed permit.queue permit.granted its tie.linked f (unqueued once e s.fs tie f x s.there New new (λ n is. absurd (cc))) n 1 (1 - permit.free) k refl waits_as.not_waiting waits_as.not_granted)) held refl)
@@ -441,7 +405,7 @@ module _ (once : Bool) (e : KeptCell) (f : ℕ) (x : FutureEntry) (s : Stands on
   end_in_queue queued = if_true (waits seen_cell.queue f) _ _ queued
 
   waiting_idle : (n : ℕ) → x.stage ≡ Queued n → runs e.running f ≡ false
-  waiting_idle n is = runs_not once e s.fs tie f x s.there (caller_shares x.errand caller) (ap runs_at is)
+  waiting_idle n is = runs_not once e s.fs tie f x s.there (caller_is x.errand caller).1 (ap runs_at is)
     where
       fits_caller : (b : Bool) → StageFits b (Queued n) → b ≡ true
       fits_caller true is_it = refl

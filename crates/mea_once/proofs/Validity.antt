@@ -29,9 +29,10 @@ use Rattle.mea_once.specs.declared.future_entry.FutureEntry.{FutureEntry}
 use Rattle.mea_once.specs.declared.key_future.KeyFuture.{KeyFuture}
 use Rattle.mea_once.specs.declared.round.Round.{Round}
 use Rattle.mea_once.specs.Entries.{KeptCell}
-use Rattle.mea_once.specs.Parts.{is_polled, runner_of, cell_seen, future_seen, cells_seen, runs_at, acquire_at, acquire_of, is_running, StageFits, is_caller, MayRun, AreKept, of_future, AreKeptCells}
+use Rattle.mea_once.specs.PartForm.{ArePartKept}
+use Rattle.mea_once.specs.Parts.{is_polled, runner_of, cell_seen, future_seen, cells_seen, runs_at, acquire_at, acquire_of, is_running, StageFits, is_caller, MayRun, AreKept, of_future, cell_form}
 use Rattle.mea_once.specs.KeyEntries.{KeptTable}
-use Rattle.mea_once.specs.KeyParts.{slot_of, kept_cell, round_seen, table_seen, key_future_seen, tables_seen, as_caller, of_round, callers_of, IsKey, Absent, Computing, Valued, CallFits, value_of, AreTogether, of_table, AreTables}
+use Rattle.mea_once.specs.KeyParts.{slot_of, kept_cell, round_seen, table_seen, key_future_seen, tables_seen, as_caller, of_round, callers_of, IsKey, Absent, Computing, Valued, CallFits, value_of, AreTogether, of_table, table_form}
 use Rattle.mea_once.proofs.Permits.{granted_sum, sum_without, shares}
 use Rattle.mea_once.proofs.OneCell.{Queue, no_debts, fits_any, running_held, unqueued}
 use Rattle.mea_once.proofs.KeyTables.{get_values, value_at}
@@ -49,16 +50,12 @@ named_queued acquires ((Acquires n d k, l) ∷ q) asks are f w is = at (named_qu
 named_queued acquires ((Owes, l) ∷ q) asks are f w is = absurd asks
 
 queued_polled : (s : CellStage) (d n : ℕ) → acquire_at s ≡ acquire.Queued d n → is_polled s ≡ true
-queued_polled New d n is = absurd (cc)
 queued_polled (Queued m) d n is = refl
-queued_polled Running d n is = absurd (cc)
-queued_polled Done d n is = absurd (cc)
+queued_polled _ d n is = absurd (cc)
 
 running_stage : (s : CellStage) → runs_at s ≡ true → s ≡ Running
-running_stage New is = absurd (cc)
-running_stage (Queued n) is = absurd (cc)
 running_stage Running is = refl
-running_stage Done is = absurd (cc)
+running_stage _ is = absurd (cc)
 
 -- ---- one cell
 module _ (once : Bool) (e : KeptCell) (fs : Names FutureEntry) (kept : AreKept once e fs) where
@@ -165,7 +162,7 @@ module _ (once : Bool) (e : KeptCell) (fs : Names FutureEntry) (kept : AreKept o
   }
 
 -- ---- all cells of a kind
-pub cells_valid : (once : Bool) (es : Names KeptCell) (fs : Names FutureEntry) (next : ℕ) → AreKeptCells once es fs next → HasCells (cells_seen es fs) next
+pub cells_valid : (once : Bool) (es : Names KeptCell) (fs : Names FutureEntry) (next : ℕ) → ArePartKept (cell_form once) es fs next → HasCells (cells_seen es fs) next
 cells_valid once es fs next kept = record {
   each = λ o c is.
       let e = seen-back cell_seen es o c is in
@@ -233,10 +230,10 @@ module _ (once : Bool) (e : KeptTable) (fs : Names KeyFuture) (kept : AreTogethe
 
   -- the current round of a key
   current : (k n : ℕ) → get e.current k ≡ Some n → IsKey once e k → (r : Round) × (s : Shown ℕ NamedWaker) × (get e.rounds n ≡ Some r) × (r.key ≡ k) × (entry_at e.keyed.table r.entry ≡ Some s) × (s.cell.value ≡ None) × (get (table_seen e).values k ≡ None)
-  current k n now (Absent none gone) = absurd (cc)
   current k n now (Computing q r s num is there key entry empty listed) =
       let name : q ≡ n = inside (sym is ∙ now) in
       (r, s, ap (get e.rounds) (sym name) ∙ there, key, entry, empty, get_values e.keyed.table e.keyed.table.pairs k ∙ ap (value_at e.keyed.table) num ∙ ap value_of entry ∙ empty)
+  current k n now (Absent none gone) = absurd (cc)
   current k n now (Valued m v s num gone entry full listed map_only round) = absurd (cc)
 
   table_valid : IsValidTable (table_seen e)
@@ -261,7 +258,7 @@ module _ (once : Bool) (e : KeptTable) (fs : Names KeyFuture) (kept : AreTogethe
       }
 
 -- ---- all maps, or all groups
-pub tables_valid : (once : Bool) (es : Names KeptTable) (fs : Names KeyFuture) (next : ℕ) → AreTables once es fs next → HasTables (tables_seen es fs) next
+pub tables_valid : (once : Bool) (es : Names KeptTable) (fs : Names KeyFuture) (next : ℕ) → ArePartKept (table_form once) es fs next → HasTables (tables_seen es fs) next
 tables_valid once es fs next kept = record {
   valid = record {
     tables = λ o t is. let e = seen-back table_seen es o t is in subst IsValidTable e.2 (table_valid once e.0 (own of_table o fs) (kept.hall.each o e.0 e.1));

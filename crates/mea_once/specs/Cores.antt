@@ -87,9 +87,8 @@ WaitsCell c slot w false c' slot' = (is_some c.value ≡ false) × (c' ≡ recor
 
 -- the value of an empty cell after an initialiser that runs alone
 abbrev pub value_by : Initialiser → Option ℕ
-value_by Unsettled = None
 value_by (Gives v) = Some v
-value_by (Fails e) = None
+value_by _ = None
 
 -- an initialiser runs alone where the cell is empty
 abbrev pub RunsAlone : Option ℕ → NamedCell → Initialiser → NamedCell → Type 0
@@ -127,6 +126,5 @@ TurnFits turns.Pending c = Unit {0}
 
 -- where it is one's turn, no waker is ready yet
 abbrev pub TurnIsQuiet : CellTurn NamedWaker → NamedCell → Type 0
-TurnIsQuiet turns.Full c = Unit {0}
 TurnIsQuiet (turns.Mine k) c = c.permit.wakes ≡ []
-TurnIsQuiet turns.Pending c = Unit {0}
+TurnIsQuiet _ c = Unit {0}

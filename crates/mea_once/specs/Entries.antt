@@ -14,7 +14,6 @@ use Rattle.mea_once_model.specs.declared.errand.Initialiser.{Initialiser}
 use Rattle.mea_once_model.specs.declared.errand.Initialiser.TheVariants.{Unsettled, Gives, Fails}
 use Rattle.mea_once_model.specs.declared.errand.Errand.{Errand}
 use Rattle.mea_once_model.specs.Cells.{init_of, is_alone, found_full, has_filled}
-use Rattle.mea_once.specs.declared.future_entry.FutureEntry.{FutureEntry}
 use Rattle.mea_once.specs.declared.poll_reply.PollReply.{PollReply}
 use Rattle.mea_once.specs.Cores.{NamedCell, FillsCell, GivesUpCell}
 
@@ -97,7 +96,7 @@ Follows turns.Full e k errand told e' = (v : ℕ) × (e.cell.value ≡ Some v) �
 Follows (turns.Mine k') e k errand told e' = Ran (init_of errand) e k errand told e'
 
 -- a future after a poll, if it is there
-abbrev pub left_by : Bool → FutureEntry → Option FutureEntry
+abbrev pub left_by : {X : Type 0} → Bool → X → Option X
 left_by true x = None
 left_by false x = Some x
 

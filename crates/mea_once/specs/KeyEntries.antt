@@ -84,17 +84,13 @@ one_future_less e = record e { futures = e.futures - 1 }
 
 -- the number of the entry that a call is at
 abbrev pub entry_in : KeyStage ℕ → ℕ → ℕ
-entry_in (key_stages.New key) n = n
 entry_in (key_stages.Calls number) n = number
-entry_in (key_stages.Kept number) n = n
-entry_in key_stages.Done n = n
+entry_in _ n = n
 
 -- the waker that the initialiser of a call keeps which was polled with k
 abbrev pub running_in : CellStage → Option NamedWaker → NamedWaker → Option NamedWaker
-running_in stages.New r k = r
-running_in (stages.Queued n) r k = r
 running_in stages.Running r k = Some k
-running_in stages.Done r k = r
+running_in _ r k = r
 
 abbrev pub stayed : Round → KeyFuture → NamedWaker → Round
 stayed r x k = record r { entry = entry_in x.call.stage r.entry; running = running_in x.call.call.stage r.running k }

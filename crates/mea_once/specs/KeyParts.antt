@@ -1,5 +1,5 @@
 -- maps and groups as the hall keeps them: what is seen of them, and what they keep to
-use Rattle.std.specs.Prelude.{ℕ, ◌≡◌, ◌+◌, ◌≤◌, ◌<◌, ◌^◌, ◌⊎◌, ◌++◌, Bool, true, false, List, [], ◌∷◌, Option, Some, None, nat_eq}
+use Rattle.std.specs.Prelude.{ℕ, ◌≡◌, ◌+◌, ◌≤◌, ◌<◌, ◌^◌, ◌⊎◌, ◌++◌, Bool, true, false, List, [], ◌∷◌, Option, Some, None, nat_eq, refl}
 use Rattle.std.specs.Option.{option_map, option_and_then}
 use Rattle.std.specs.FinMap.{get, len, insert, remove, empty}
 use Rattle.mea_family.specs.declared.answer.Answer.{Answer}
@@ -7,7 +7,6 @@ use Rattle.mea_family.specs.Family.{Outcome}
 use Rattle.mea_base.specs.Ready.{Waking}
 use Rattle.mea_base.specs.Totals.{total}
 use Rattle.mea_by_name.specs.ByName.{Names, seen, own, count}
-use Rattle.mea_by_name.specs.HallKept.{HallKept}
 use Rattle.mea_by_name.specs.declared.named_waker.NamedWaker.{NamedWaker}
 use Rattle.mea_once_core.specs.Cell.{Cell as CoreCell}
 use Rattle.mea_once_core.specs.Links.{Shown}
@@ -16,9 +15,9 @@ use Rattle.mea_once_core.specs.Waiting.{waiting_at, waiting_in}
 use Rattle.mea_once_core.specs.declared.key_call.KeyStage.TheVariants as key_stages
 use Rattle.mea_once_core.specs.declared.cell_stage.CellStage.TheVariants as stages
 use Rattle.mea_once_model.specs.declared.errand.Errand.TheVariants.{Computes}
-use Rattle.mea_once_model.specs.Cells.{Cell, new_cell}
+use Rattle.mea_once_model.specs.Cells.{Cell, new_cell, turned_to}
 pub use Rattle.mea_once_model.specs.Valid.{slot_of}
-use Rattle.mea_once_model.specs.Tables.{Table, KeyFuture as ModelFuture, Tables, KeyStep, is_this, others_of, applied}
+use Rattle.mea_once_model.specs.Tables.{Table, KeyFuture as ModelFuture, Tables, KeyStep, is_this, settles_in, others_of, registered, applied}
 use Rattle.mea_once.specs.declared.key_future.KeyFuture.{KeyFuture}
 use Rattle.mea_once.specs.declared.round.Round.{Round}
 use Rattle.mea_once.specs.declared.future_entry.FutureEntry.{FutureEntry}
@@ -26,7 +25,8 @@ use Rattle.mea_once.specs.Cores as cores
 use Rattle.mea_once.specs.Entries.{KeptCell, of_running}
 use Rattle.mea_once.specs.KeyCores.{NamedKeyed}
 use Rattle.mea_once.specs.KeyEntries.{KeptTable}
-use Rattle.mea_once.specs.Parts.{AreKept, cell_seen, is_polled, of_none}
+use Rattle.mea_once.specs.PartForm.{PartForm, IsOf}
+use Rattle.mea_once.specs.Parts.{AreKept, cell_seen, is_polled}
 
 -- ---- what is seen of each thing
 abbrev pub value_of : Option (Shown ℕ NamedWaker) → Option ℕ
@@ -137,19 +137,8 @@ RoundsBelow e n = (q : ℕ) (r : Round) → get e.rounds q ≡ Some r → q < n
 abbrev pub others : Names KeyFuture → ℕ → ℕ → ℕ
 others fs f n = count (λ (x : KeyFuture). is_this n x.round) (remove fs f)
 
--- this is what becomes of a future
-abbrev pub turned_to : Names KeyFuture → ℕ → Option KeyFuture → Names KeyFuture
-turned_to fs f None = remove fs f
-turned_to fs f (Some y) = insert fs f y
-
--- a future after a poll, if it is there
-abbrev pub left_by : Bool → KeyFuture → Option KeyFuture
-left_by true x = None
-left_by false x = Some x
-
-abbrev pub IsOfTable : Option KeyFuture → ℕ → Type 0
-IsOfTable None o = Unit {0}
-IsOfTable (Some y) o = y.table ≡ o
+abbrev pub of_table : KeyFuture → ℕ
+of_table x = x.table
 
 -- a map or a group and its futures, of which f is one, are kept; all names are below that of the event
 pub record StandsTable (once : Bool) (e : KeptTable) (f : ℕ) (x : KeyFuture) (i : ℕ) : Type 0 where
@@ -169,19 +158,39 @@ pub record SteppedTable (once : Bool) (old : KeptTable) (fs : Names KeyFuture) (
   pub replied : answer ≡ step.reply
   pub table : table_seen new ≡ step.table
   pub future : option_map key_future_seen p ≡ step.future
-  pub mine : IsOfTable p o
+  pub mine : IsOf of_table p o
   pub woken : after.wakers ≡ before.wakers ++ step.wakes
   pub counted : after.registered + table_keeps old ≡ before.registered + table_keeps new
   pub kept : AreTogether once new (turned_to fs f p)
   pub few : new.futures ≤ old.futures + 1
   pub low : RoundsBelow new (i + 1)
 
-abbrev pub of_table : KeyFuture → ℕ
-of_table x = x.table
-
-pub record AreTables (once : Bool) (es : Names KeptTable) (fs : Names KeyFuture) (next : ℕ) : Type 0 where
-  pub hall : HallKept of_table of_none (λ e xs ys. AreTogether once e xs) (λ e. e.futures) es fs empty next
-  pub low : (o : ℕ) (e : KeptTable) → get es o ≡ Some e → RoundsBelow e next
+-- maps, or groups, with their futures. The names that are bounded are those of rounds
+abbrev pub table_form : Bool → PartForm
+table_form once = record {
+  Object = KeptTable;
+  Future = KeyFuture;
+  SeenObject = Table;
+  SeenFuture = ModelFuture;
+  Hall = Tables;
+  object_seen = table_seen;
+  future_seen = key_future_seen;
+  hall = λ ts fs. record { tables = ts; futures = fs };
+  objects = λ h. h.tables;
+  futures = λ h. h.futures;
+  registered = registered;
+  of = of_table;
+  seen_of = λ x. x.table;
+  settles = settles_in;
+  Good = AreTogether once;
+  size = λ e. e.futures;
+  keeps = table_keeps;
+  Low = RoundsBelow;
+  objects_are = λ ts fs. refl;
+  futures_are = λ ts fs. refl;
+  of_is = λ x. refl;
+  size_is = λ e fs good. good.futures;
+}
 
 -- ---- what is new
 pub record IsNewKeyed (k : NamedKeyed) : Type 0 where

@@ -1,6 +1,7 @@
 pub mod Cores
 pub mod KeyCores
 pub mod Entries
+pub mod PartForm
 pub mod Parts
 pub mod Actions
 pub mod KeyEntries

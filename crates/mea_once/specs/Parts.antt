@@ -1,7 +1,7 @@
 -- the cells of one kind as the hall keeps them: what is seen of them, and what they keep to
-use Rattle.std.specs.Prelude.{ℕ, ◌≡◌, ◌+◌, ◌≤◌, ◌<◌, ◌==◌, ◌++◌, Bool, true, false, cond, [], ◌∷◌, Option, Some, None, Result, Ok, Err}
+use Rattle.std.specs.Prelude.{ℕ, ◌≡◌, ◌+◌, ◌≤◌, ◌<◌, ◌==◌, ◌++◌, Bool, true, false, cond, [], ◌∷◌, Option, Some, None, Result, Ok, Err, refl}
 use Rattle.std.specs.Option.{option_map}
-use Rattle.std.specs.FinMap.{get, len, insert, remove, empty}
+use Rattle.std.specs.FinMap.{get, len, empty}
 use Rattle.mea_family.specs.declared.answer.Answer.{Answer}
 use Rattle.mea_base.specs.declared.no_memory.NoMemory.{NoMemory}
 use Rattle.mea_base.specs.Ready.{Waking}
@@ -9,7 +9,6 @@ use Rattle.mea_by_name.specs.declared.named_waker.NamedWaker.{NamedWaker}
 use Rattle.mea_by_name.specs.ByName.{Names, seen, count}
 use Rattle.mea_by_name.specs.NamedQueue.{Waiting}
 use Rattle.mea_by_name.specs.LackingQueue.{who}
-use Rattle.mea_by_name.specs.HallKept.{HallKept}
 use Rattle.mea_sem_core.specs.Core.{held_of}
 use Rattle.mea_sem_core.specs.declared.acquire.Acquire.{Acquire}
 use Rattle.mea_sem_core.specs.declared.acquire.Acquire.TheVariants as acquire
@@ -19,21 +18,20 @@ use Rattle.mea_cores_by_name.specs.SetLinked.{set_names, SlotIs, AreBelow}
 use Rattle.mea_once_core.specs.declared.cell_stage.CellStage.{CellStage}
 use Rattle.mea_once_core.specs.declared.cell_stage.CellStage.TheVariants.{New, Queued, Running, Done}
 use Rattle.mea_once_model.specs.declared.errand.Initialiser.{Initialiser}
-use Rattle.mea_once_model.specs.declared.errand.Initialiser.TheVariants.{Unsettled, Gives, Fails}
+use Rattle.mea_once_model.specs.declared.errand.Initialiser.TheVariants.{Gives}
 use Rattle.mea_once_model.specs.declared.errand.Errand.{Errand}
-use Rattle.mea_once_model.specs.declared.errand.Errand.TheVariants.{Calls, Computes, Alone, Sets, Inserts, Awaits}
-use Rattle.mea_once_model.specs.Cells.{Cell, CellFuture, Cells, Step, is_alone, poll}
+use Rattle.mea_once_model.specs.declared.errand.Errand.TheVariants.{Calls, Alone, Awaits}
+use Rattle.mea_once_model.specs.Cells.{Cell, CellFuture, Cells, Step, is_alone, settles_in, registered, turned_to, poll}
 use Rattle.mea_once.specs.declared.future_entry.FutureEntry.{FutureEntry}
 use Rattle.mea_once.specs.declared.poll_reply.PollReply.{PollReply}
 use Rattle.mea_once.specs.Cores.{NamedCell, IsSoundCell}
 use Rattle.mea_once.specs.Entries.{KeptCell, keeps, left_by}
+use Rattle.mea_once.specs.PartForm.{PartForm, IsOf}
 
 -- ---- what is seen of each thing
 abbrev pub is_polled : CellStage → Bool
 is_polled New = false
-is_polled (Queued n) = true
-is_polled Running = true
-is_polled Done = true
+is_polled _ = true
 
 abbrev pub runner_of : Option NamedWaker → Waiting
 runner_of None = []
@@ -58,60 +56,46 @@ cells_seen es fs = record { cells = seen cell_seen es; futures = seen future_see
 -- ---- what is kept to
 -- who asks for its turn, and neither waits for the cell nor uses it alone
 abbrev pub is_caller : Errand → Bool
-is_caller (Calls r) = true
-is_caller (Computes r) = true
 is_caller (Alone r) = false
-is_caller (Sets v) = true
-is_caller (Inserts v) = true
 is_caller Awaits = false
+is_caller _ = true
 
 abbrev pub is_wait : Errand → Bool
 is_wait Awaits = true
 is_wait _ = false
 
 abbrev pub gives_nothing : Initialiser → Bool
-gives_nothing Unsettled = true
 gives_nothing (Gives v) = v == 0
-gives_nothing (Fails e) = true
+gives_nothing _ = true
 
 -- what the futures of a call that runs once do, and those of a cell
 abbrev pub fits : Bool → Errand → Bool
 fits once (Calls r) = cond once (gives_nothing r) false
-fits once (Computes r) = cond once false true
-fits once (Alone r) = cond once false true
-fits once (Sets v) = cond once false true
-fits once (Inserts v) = cond once false true
 fits once Awaits = once
+fits once _ = cond once false true
 
 -- the acquire by which a future is known in the queue; one whose turn it is has no number there any more
 abbrev pub acquire_at : CellStage → Acquire
-acquire_at New = acquire.New 1
 acquire_at (Queued n) = acquire.Queued 1 n
-acquire_at Running = acquire.New 1
-acquire_at Done = acquire.New 1
+acquire_at _ = acquire.New 1
 
 abbrev pub acquire_of : FutureEntry → Acquire
 acquire_of x = acquire_at x.stage
 
 abbrev pub runs_at : CellStage → Bool
-runs_at New = false
-runs_at (Queued n) = false
 runs_at Running = true
-runs_at Done = false
+runs_at _ = false
 
 abbrev pub is_running : FutureEntry → Bool
 is_running x = runs_at x.stage
 
 -- the stage of one that asks for its turn, or does not
 abbrev pub StageFits : Bool → CellStage → Type 0
-StageFits true New = Unit {0}
-StageFits true (Queued n) = Unit {0}
-StageFits true Running = Unit {0}
 StageFits true Done = ⊥
-StageFits false New = Unit {0}
 StageFits false (Queued n) = ⊥
 StageFits false Running = ⊥
 StageFits false Done = ⊥
+StageFits _ _ = Unit {0}
 
 pub record IsFuture (once : Bool) (waits : Registered NamedWaker) (f : ℕ) (x : FutureEntry) : Type 0 where
   pub fits : fits once x.errand ≡ true
@@ -141,14 +125,8 @@ pub record AreKept (once : Bool) (e : KeptCell) (fs : Names FutureEntry) : Type 
   pub quiet : e.cell.permit.wakes ≡ []
   pub tied : Tied once e fs
 
--- this is what becomes of a future
-abbrev pub turned_to : Names FutureEntry → ℕ → Option FutureEntry → Names FutureEntry
-turned_to fs f None = remove fs f
-turned_to fs f (Some y) = insert fs f y
-
-abbrev pub IsOf : Option FutureEntry → ℕ → Type 0
-IsOf None o = Unit {0}
-IsOf (Some y) o = y.cell ≡ o
+abbrev pub of_future : FutureEntry → ℕ
+of_future x = x.cell
 
 -- a cell and its futures, of which f is one, are kept; the names of all who live and who wait are below n
 pub record Stands (once : Bool) (e : KeptCell) (f : ℕ) (x : FutureEntry) : Type 0 where
@@ -164,7 +142,7 @@ pub record Stepped (once : Bool) (old : KeptCell) (fs : Names FutureEntry) (n f 
   pub replied : answer ≡ s.reply
   pub cell : cell_seen new ≡ s.cell
   pub future : option_map future_seen p ≡ s.future
-  pub mine : IsOf p o
+  pub mine : IsOf of_future p o
   pub woken : after.wakers ≡ before.wakers ++ s.wakes
   pub counted : after.registered + keeps old ≡ before.registered + keeps new
   pub kept : AreKept once new (turned_to fs f p)
@@ -177,16 +155,32 @@ PollsCell once e f x w before (Ok told) e' x' after =
     (s : Stands once e f x) → Stepped once e s.fs s.n f x.cell (left_by told.over x') (poll f w (future_seen x) (cell_seen e)) told.answer e' before after
 PollsCell once e f x w before (Err none) e' x' after = (e' ≡ e) × (x' ≡ x) × (after ≡ before)
 
-abbrev pub of_future : FutureEntry → ℕ
-of_future x = x.cell
-
-abbrev pub of_none : ℕ → ℕ
-of_none k = k
-
-pub record AreKeptCells (once : Bool) (es : Names KeptCell) (fs : Names FutureEntry) (next : ℕ) : Type 0 where
-  pub hall : HallKept of_future of_none (λ e xs ys. AreKept once e xs) (λ e. e.futures) es fs empty next
-  -- the names of those who wait until a cell is full, also of those that have ended
-  pub low : (o : ℕ) (e : KeptCell) → get es o ≡ Some e → AreBelow e.cell.waits.wakers next
+-- cells with their futures. The names that are bounded are of those who wait until a cell is full, also of those that have ended
+abbrev pub cell_form : Bool → PartForm
+cell_form once = record {
+  Object = KeptCell;
+  Future = FutureEntry;
+  SeenObject = Cell;
+  SeenFuture = CellFuture;
+  Hall = Cells;
+  object_seen = cell_seen;
+  future_seen = future_seen;
+  hall = λ cs fs. record { cells = cs; futures = fs };
+  objects = λ h. h.cells;
+  futures = λ h. h.futures;
+  registered = registered;
+  of = of_future;
+  seen_of = λ x. x.cell;
+  settles = settles_in;
+  Good = AreKept once;
+  size = λ e. e.futures;
+  keeps = keeps;
+  Low = λ e n. AreBelow e.cell.waits.wakers n;
+  objects_are = λ cs fs. refl;
+  futures_are = λ cs fs. refl;
+  of_is = λ x. refl;
+  size_is = λ e fs good. good.tied.futures;
+}
 
 -- ---- what is new
 pub record IsNewCell (c : NamedCell) (v : Option ℕ) : Type 0 where

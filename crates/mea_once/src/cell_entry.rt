@@ -193,9 +193,7 @@ impl<C: TurnCore> CellEntry<C> {
         match turn {
             CellTurn::Pending => PENDING,
             CellTurn::Full => {
-                let Some(value) = self.core.value() else {
-                    unreachable!()
-                };
+                let value = self.core.value().unwrap();
                 self.finish(waker.future, future.errand);
                 PollReply {
                     answer: found_full(future.errand, value),
@@ -356,9 +354,7 @@ impl<C: WholeCore> CellEntry<C> {
                 PENDING
             }
             Poll::Ready(Ok(())) => {
-                let Some(value) = self.core.value() else {
-                    unreachable!()
-                };
+                let value = self.core.value().unwrap();
                 self.finish(waker.future, errand);
                 PollReply {
                     answer: found_full(errand, value),

@@ -42,11 +42,12 @@ impl<C: TurnCore> Model for CellPart<C> {
 
     ghost coded = { part_code cells_code };
 
-    ghost use Rattle.mea_once.specs.Parts.{cells_seen, AreKeptCells};
+    ghost use Rattle.mea_once.specs.PartForm.{ArePartKept};
+    ghost use Rattle.mea_once.specs.Parts.{cells_seen, cell_form};
 
     ghost view = { λ a. record { hall = cells_seen a.cells a.futures; next = a.next } };
 
-    ghost invariant = { λ a. AreKeptCells C.is_once a.cells a.futures a.next };
+    ghost invariant = { λ a. ArePartKept (cell_form C.is_once) a.cells a.futures a.next };
 }
 
 impl<C: TurnCore> CellPart<C> {

@@ -41,11 +41,12 @@ impl<C: TableCore> Model for KeyPart<C> {
 
     ghost coded = { part_code tables_code };
 
-    ghost use Rattle.mea_once.specs.KeyParts.{tables_seen, AreTables};
+    ghost use Rattle.mea_once.specs.PartForm.{ArePartKept};
+    ghost use Rattle.mea_once.specs.KeyParts.{tables_seen, table_form};
 
     ghost view = { λ a. record { hall = tables_seen a.tables a.futures; next = a.next } };
 
-    ghost invariant = { λ a. AreTables C.is_once a.tables a.futures a.next };
+    ghost invariant = { λ a. ArePartKept (table_form C.is_once) a.tables a.futures a.next };
 }
 
 impl<C: TableCore> KeyPart<C> {

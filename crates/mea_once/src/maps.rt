@@ -49,9 +49,6 @@ impl TableCore for NamedMap {
 
 impl ValueCore for NamedMap {
     fn value(&self, key: u64) -> Option<u64> {
-        match MapCore::get(self, &key) {
-            Ok(value) => value,
-            Err(_) => unreachable!(),
-        }
+        MapCore::get(self, &key).unwrap()
     }
 }

@@ -46,7 +46,7 @@ impl<C: TableCore> Model for TableEntry<C> {
 
 impl<C: TableCore> TableEntry<C> {
     ghost use Rattle.mea_once.specs.KeyCores.{answers};
-    ghost use Rattle.mea_once.specs.KeyParts.{left_by};
+    ghost use Rattle.mea_once.specs.Entries.{left_by};
 
     /// A map or a group that has no future.
     pub fn new(alloc: Global, core: C) -> Self

@@ -12,7 +12,7 @@ use Rattle.mea_by_name.specs.NamedQueue.{Waiting, waits, waker_for, with_waker, 
 use Rattle.mea_family.specs.Play.{found, content}
 use Rattle.mea_by_name.proofs.Cases.{by_found, by_if}
 use Rattle.mea_by_name.proofs.NamedQueues.{Local, local_same}
-use Rattle.mea_by_name.proofs.OneObject.{Goes, FuturesGo, Same, Put, Made, Gone, Kept, Begun, Ended, None_is, Polled, Ends}
+use Rattle.mea_by_name.proofs.OneObject.{Goes, ObjectsGo, FuturesGo, Same, Put, Made, Gone, Kept, Begun, Ended, None_is, Polled, Ends}
 use Rattle.mea_by_name.proofs.Own.{seen-none, seen-back, seen-insert, seen-remove, seen-alike, own-nothing}
 use Rattle.mea_once_model.specs.Cells as cells
 use Rattle.mea_once_model.specs.declared.errand.Initialiser.{Initialiser}
@@ -182,42 +182,33 @@ module _ (h : Cells) (i : ℕ) (a : Action) where
 
   -- ---- an action that ends nobody
   module _ (none : (f : ℕ) → ends_in a f ≡ true → ⊥) where
-    pub tells : (extra : ℕ) (o : Outcome Cells) → o.hall ≡ h → o.wakes ≡ [] → GoesTo extra o
-    tells extra o same silent = rw (same, silent) (record { k = i; touches = None_is refl; objects = Same; futures = Kept; over = λ f is. absurd (none f is) })
+    rests : (extra : ℕ) (o : Outcome Cells) → ObjectsGo waiting_at owner h.cells (keys h.futures) (cause_in h a ≡ None) i i extra o.hall.cells o.wakes → Futures i o.hall.futures → GoesTo extra o
+    rests extra o objects futures = record { k = i; touches = None_is refl; objects = objects; futures = futures; over = λ f is. absurd (none f is) }
+
+    tells : (extra : ℕ) (reply : Answer) → GoesTo extra (quietly h reply)
+    tells extra reply = rests extra (quietly h reply) Same Kept
 
     still : (extra : ℕ) → GoesTo extra (quietly h answers.Done)
-    still extra = tells extra (quietly h answers.Done) refl refl
+    still extra = tells extra answers.Done
 
     -- one cell changes, and nobody waits otherwise
     turns : (o : ℕ) (c c' : Cell) (reply : Answer) → get h.cells o ≡ Some c → waiting_at c' ≡ waiting_at c → GoesTo 0 (quietly (cells.with_cell h o c') reply)
-    turns o c c' reply there same = record { k = i; touches = None_is refl; objects = Put o c c' [] 0 there (rw same (local_same (waiting_at c) i)) (omega arith); futures = Kept; over = λ f is. absurd (none f is) }
+    turns o c c' reply there same = rests 0 (quietly (cells.with_cell h o c') reply) (Put o c c' [] 0 there (rw same (local_same (waiting_at c) i)) (omega arith)) Kept
 
     makes : (v : Option ℕ) → GoesTo 0 (cells.make h i v)
-    makes v = record { k = i; touches = None_is refl; objects = Made (new_cell v) refl; futures = Kept; over = λ f is. absurd (none f is) }
+    makes v = rests 0 (cells.make h i v) (Made (new_cell v) refl) Kept
 
     begins : (o : ℕ) (errand : Errand) → (cause_in h a ≡ None → is_cell h o ≡ true) → GoesTo 0 (cells.begin h i o errand)
-    begins o errand there = record {
-      k = i;
-      touches = None_is refl;
-      objects = Same;
-      futures = rw (seen-insert (λ (x : CellFuture). x.cell) h.futures i (record { cell = o; errand = errand; polled = false })) (Begun o there);
-      over = λ f is. absurd (none f is);
-    }
+    begins o errand there = rests 0 (cells.begin h i o errand) Same (rw (seen-insert (λ (x : CellFuture). x.cell) h.futures i (record { cell = o; errand = errand; polled = false })) (Begun o there))
 
     goes_out : (o : ℕ) (c : Cell) (reply : Answer) → get h.cells o ≡ Some c → (cause_in h a ≡ None → futures_of h o ≡ 0) → GoesTo 0 (cells.gone h o reply)
-    goes_out o c reply there alone = record {
-      k = i;
-      touches = None_is refl;
-      objects = Gone o c [] there (omega arith) (λ allowed f y apart is mine. let had = seen-back (λ (x : CellFuture). x.cell) h.futures f y is in
-          own-nothing (λ (x : CellFuture). x.cell) o h.futures (omega (arith, alone allowed)) f had.0 had.1 (mine ∙ sym had.2));
-      futures = Kept;
-      over = λ f is. absurd (none f is);
-    }
+    goes_out o c reply there alone = rests 0 (cells.gone h o reply) (Gone o c [] there (omega arith) (λ allowed f y apart is mine. let had = seen-back (λ (x : CellFuture). x.cell) h.futures f y is in
+        own-nothing (λ (x : CellFuture). x.cell) o h.futures (omega (arith, alone allowed)) f had.0 had.1 (mine ∙ sym had.2))) Kept
 
     settles : (f : ℕ) (r : Initialiser) (x : CellFuture) (c : Cell) → get h.futures f ≡ Some x → get h.cells x.cell ≡ Some c → GoesTo 0 (cells.applied h f x.cell (cells.settle f r x c))
     settles f r x c future there =
         let fine = settles_local f i r x c in
-        record { k = i; touches = None_is refl; objects = Put x.cell c _ _ fine.more there fine.local fine.few; futures = alike i f x _ future refl; over = λ f is. absurd (none f is) }
+        rests 0 (cells.applied h f x.cell (cells.settle f r x c)) (Put x.cell c _ _ fine.more there fine.local fine.few) (alike i f x _ future refl)
 
     steps : (f w : ℕ) (x : CellFuture) (c : Cell) (s : Step) → polled_in a f ≡ Some w → get h.futures f ≡ Some x → get h.cells x.cell ≡ Some c → Fine x c f 1 s → GoesTo 1 (cells.applied h f x.cell s)
     steps f w x c s is future there fine = record { k = f; touches = Polled w is; objects = Put x.cell c s.cell s.wakes fine.more there fine.local fine.few; futures = turned f x s.future future fine.mine; over = λ f is. absurd (none f is) }
@@ -261,8 +252,8 @@ module _ (h : Cells) (i : ℕ) where
       (λ x future. by_found (GoesTo h i (Settle f r) 0) (get h.cells x.cell) h _ (still h i (Settle f r) (λ f is. absurd (cc)) 0)
       (λ c there. settles h i (Settle f r) (λ f is. absurd (cc)) f r x c future there))
   goes (End k) = ends h i k (get h.futures k) refl
-  goes (TellFull o) = by_cell (TellFull o) (λ f is. absurd (cc)) o _ (λ c there. tells h i (TellFull o) (λ f is. absurd (cc)) 0 (cells.tell_full h c) refl refl)
-  goes (Tell o) = by_cell (Tell o) (λ f is. absurd (cc)) o _ (λ c there. tells h i (Tell o) (λ f is. absurd (cc)) 0 (cells.tell h c) refl refl)
+  goes (TellFull o) = by_cell (TellFull o) (λ f is. absurd (cc)) o _ (λ c there. tells h i (TellFull o) (λ f is. absurd (cc)) 0 (cells.tell_full h c).reply)
+  goes (Tell o) = by_cell (Tell o) (λ f is. absurd (cc)) o _ (λ c there. tells h i (Tell o) (λ f is. absurd (cc)) 0 (cells.tell h c).reply)
   goes (Use o u) = by_cell (Use o u) (λ f is. absurd (cc)) o _
       (λ c there. turns h i (Use o u) (λ f is. absurd (cc)) o c (record c { value = cells.value_after u c.value }) (cells.reply_to u c.value) there refl)
   goes (TakeOut o) = by_cell (TakeOut o) (λ f is. absurd (cc)) o _ (λ c there. goes_out h i (TakeOut o) (λ f is. absurd (cc)) o c (content c.value) there (λ allowed. not_borrowed (is_cell h o) (futures_of h o) allowed))

@@ -21,7 +21,7 @@ use Rattle.mea_once_model.specs.declared.errand.Initialiser.TheVariants.{Unsettl
 use Rattle.mea_once_model.specs.declared.errand.Errand.{Errand}
 use Rattle.mea_once_model.specs.declared.errand.Errand.TheVariants.{Calls, Computes, Alone, Sets, Inserts, Awaits}
 use Rattle.mea_once_model.specs.Cells.{Cell, CellFuture, Cells, Step, waiting_at, init_of, is_alone, is_future}
-use Rattle.mea_once_model.specs.Actions.{Action, Make, Begin, Poll, Settle, End, TellFull, Tell, Use, TakeOut, Drop, act_in, polled_in, ends_in, cause_in}
+use Rattle.mea_once_model.specs.Actions.{Action, Poll, Settle, act_in, polled_in, ends_in, cause_in}
 use Rattle.mea_once_model.proofs.Parts.{in_first, in_second, not_waiting}
 use Rattle.mea_once_model.proofs.Acting.{keys, owner, goes}
 
@@ -42,19 +42,11 @@ module _ (f w : ℕ) (x : CellFuture) (c : Cell) where
 
   found_never : (j : Errand) (v : ℕ) → cells.found_full j v ≡ answers.Pending → ⊥
   found_never (Calls r) v is = absurd (cc)
-  found_never (Computes r) v is = absurd (cc)
-  found_never (Alone r) v is = absurd (cc)
-  found_never (Sets u) v is = absurd (cc)
-  found_never (Inserts u) v is = absurd (cc)
-  found_never Awaits v is = absurd (cc)
+  found_never _ v is = absurd (cc)
 
   filled_never : (j : Errand) (v : ℕ) → cells.has_filled j v ≡ answers.Pending → ⊥
   filled_never (Calls r) v is = absurd (cc)
-  filled_never (Computes r) v is = absurd (cc)
-  filled_never (Alone r) v is = absurd (cc)
-  filled_never (Sets u) v is = absurd (cc)
-  filled_never (Inserts u) v is = absurd (cc)
-  filled_never Awaits v is = absurd (cc)
+  filled_never _ v is = absurd (cc)
 
   module _ (out : waits c.queue f ≡ false) (idle : waits c.runner f ≡ false) where
     run_places : (t : Bool) (r : Initialiser) → P (cells.run f w x (record c { taken = t }) r)
@@ -143,15 +135,7 @@ module _ (h : Cells) (i : ℕ) where
 -- an action that polls f is a poll of f
 pub same_poll : (a : Action) (f w : ℕ) (P : Action → Type 0) → ((v : ℕ) → v ≡ w → P (Poll f v)) → polled_in a f ≡ Some w → P a
 same_poll (Poll g v) f w P here is = let test = cond_some (g == f) v w is in subst (λ j. P (Poll j v)) (sym (eqb-true g f test.0)) (here v test.1)
-same_poll (Make v) f w P here is = absurd (cc)
-same_poll (Begin o errand) f w P here is = absurd (cc)
-same_poll (Settle k r) f w P here is = absurd (cc)
-same_poll (End k) f w P here is = absurd (cc)
-same_poll (TellFull o) f w P here is = absurd (cc)
-same_poll (Tell o) f w P here is = absurd (cc)
-same_poll (Use o u) f w P here is = absurd (cc)
-same_poll (TakeOut o) f w P here is = absurd (cc)
-same_poll (Drop o) f w P here is = absurd (cc)
+same_poll _ f w P here is = absurd (cc)
 
 -- ---- a future is as well known by its cell
 is_key : (h : Cells) (f : ℕ) → is_future h f ≡ is_some (get (keys h.futures) f)

@@ -7,7 +7,6 @@ use Rattle.mea_base.proofs.Maps.{by_put, by_gone, get-there, get-other, get-gone
 use Rattle.mea_base.proofs.Tests.{by_name}
 use Rattle.mea_family.proofs.Causes.{known}
 use Rattle.mea_by_name.specs.ByName.{Names}
-use Rattle.mea_family.specs.Play.{found}
 use Rattle.mea_by_name.proofs.Cases.{by_found, by_if}
 use Rattle.mea_by_name.proofs.Own.{own-nothing}
 use Rattle.mea_once_model.specs.declared.errand.Initialiser.{Initialiser}
@@ -15,10 +14,10 @@ use Rattle.mea_once_model.specs.Cells as cells
 use Rattle.mea_once_model.specs.Cells.{Cell, CellFuture, Step, new_cell}
 use Rattle.mea_once_model.specs.Tables as tables
 use Rattle.mea_once_model.specs.Tables.{Table, KeyFuture, Tables, is_this, is_current, closed, left, left_by, at_round, caller, caller_after, others_of, without_key, new_table, futures_of, is_table}
-use Rattle.mea_once_model.specs.KeyActions.{KeyAction, MakeTable, BeginKey, PollKey, SettleKey, EndKey, TellKey, DiscardKey, RemoveKey, DropTable, key_act, key_cause, with_future}
+use Rattle.mea_once_model.specs.KeyActions.{KeyAction, MakeTable, BeginKey, PollKey, SettleKey, EndKey, TellKey, DiscardKey, RemoveKey, DropTable, key_act, key_cause}
 use Rattle.mea_once_model.specs.KeyValid.{IsValidTable, IsValidFuture, AreValid}
 use Rattle.mea_family.proofs.Refusals.{not_borrowed}
-use Rattle.mea_once_model.proofs.TableActing.{by_rounds}
+use Rattle.mea_once_model.proofs.TableActing.{by_rounds, by_both}
 use Rattle.mea_once_model.proofs.TableWakers.{LowTables, of_table, none_other}
 
 -- ---- a map or group with less
@@ -163,13 +162,13 @@ module _ (h : Tables) (valid : AreValid h) where
 
   -- a future that changes, but not whose it is
   module _ (f : ℕ) (x : KeyFuture) (future : get h.futures f ≡ Some x) where
-    turned_same : (p : Option KeyFuture) → ((y : KeyFuture) → p ≡ Some y → y.table ≡ x.table) → (g : ℕ) (y : KeyFuture) → get (tables.turned_to h.futures f p) g ≡ Some y → (x.table ≡ y.table → ⊥) → get h.futures g ≡ Some y
+    turned_same : (p : Option KeyFuture) → ((y : KeyFuture) → p ≡ Some y → y.table ≡ x.table) → (g : ℕ) (y : KeyFuture) → get (cells.turned_to h.futures f p) g ≡ Some y → (x.table ≡ y.table → ⊥) → get h.futures g ≡ Some y
     turned_same None home g y = λ is away. removed_there h.futures f g y is
     turned_same (Some z) home g y = by_put h.futures f z (λ g p. p ≡ Some y → (x.table ≡ y.table → ⊥) → get h.futures g ≡ Some y)
         (λ is away. absurd (away (sym (home y is)))) (λ g apart is away. is) g
 
     turned_mine : (t' : Table) (p : Option KeyFuture) → ((g : ℕ) (y : KeyFuture) → (f ≡ g → ⊥) → get h.futures g ≡ Some y → x.table ≡ y.table → IsValidFuture t' y) → ((y : KeyFuture) → p ≡ Some y → IsValidFuture t' y)
-        → (g : ℕ) (y : KeyFuture) → get (tables.turned_to h.futures f p) g ≡ Some y → x.table ≡ y.table → IsValidFuture t' y
+        → (g : ℕ) (y : KeyFuture) → get (cells.turned_to h.futures f p) g ≡ Some y → x.table ≡ y.table → IsValidFuture t' y
     turned_mine t' None others own g y = by_gone h.futures f (λ g p. p ≡ Some y → x.table ≡ y.table → IsValidFuture t' y) (λ is at. absurd (cc)) (λ g apart is at. others g y apart is at) g
     turned_mine t' (Some z) others own g y = by_put h.futures f z (λ g p. p ≡ Some y → x.table ≡ y.table → IsValidFuture t' y) (λ is at. own y is) (λ g apart is at. others g y apart is at) g
 
@@ -207,7 +206,7 @@ module _ (once : Bool) (h : Tables) (n i : ℕ) (low : LowTables h n) (later : n
       own_home (Some z) y is = let same : _ ≡ y = inside is in ap (λ (y : KeyFuture). y.table) (sym same)
 
       steps : AreValid (tables.applied h f x.table (at_round once x r (others_of h f x.table r) (record t { current = cur }) s)).hall
-      steps = changes h valid x.table after (tables.turned_to h.futures f (caller_after r x s.future)) (step_valid once x r (others_of h f x.table r) (record t { current = cur }) s good mine)
+      steps = changes h valid x.table after (cells.turned_to h.futures f (caller_after r x s.future)) (step_valid once x r (others_of h f x.table r) (record t { current = cur }) s good mine)
           (turned_same h valid f x future (caller_after r x s.future) (own_home s.future)) (turned_mine h valid f x future after (caller_after r x s.future) other_fits (own_fits s.future refl))
 
     its_keys : (g : ℕ) (y : KeyFuture) → get h.futures g ≡ Some y → y.table ≡ x.table → (m k : ℕ) → y.round ≡ Some m → get t.current k ≡ Some m → k ≡ y.key
@@ -275,12 +274,6 @@ module _ (once : Bool) (h : Tables) (n i : ℕ) (low : LowTables h n) (later : n
   ends f x future (Some t) there = end_in f x future t there x.round refl
 
   -- ---- every action
-  with_both : (f : ℕ) (act : KeyFuture → Table → Outcome Tables) → ((x : KeyFuture) (t : Table) → get h.futures f ≡ Some x → get h.tables x.table ≡ Some t → AreValid (act x t).hall) → AreValid (with_future h f act).hall
-  with_both f act some = by_found (λ (o : Outcome Tables). AreValid o.hall) (get h.futures f) h _ valid (λ x future. by_found (λ (o : Outcome Tables). AreValid o.hall) (get h.tables x.table) h _ valid (λ t there. some x t future there))
-
-  at_table : (o : ℕ) (act : Table → Outcome Tables) → ((t : Table) → get h.tables o ≡ Some t → AreValid (act t).hall) → AreValid (found (get h.tables o) h act).hall
-  at_table o act some = by_found (λ (o : Outcome Tables). AreValid o.hall) (get h.tables o) h act valid some
-
   takes_key : (o k : ℕ) (t : Table) → get h.tables o ≡ Some t → AreValid (tables.with_table h o (without_key k t))
   takes_key o k t there = changes h valid o (without_key k t) h.futures (without_valid t k (valid.tables o t there)) (λ g y is away. is)
       (λ g y is at. let was = valid.futures g y t is (subst (λ o. get h.tables o ≡ Some t) at there) in record { round = was.round; key = λ m j round now_it. was.key m j round (removed_there t.current k j m now_it) })
@@ -306,13 +299,13 @@ module _ (once : Bool) (h : Tables) (n i : ℕ) (low : LowTables h n) (later : n
   pub valid_after : (a : KeyAction) → key_cause h a ≡ None → AreValid (key_act once h i a).hall
   valid_after MakeTable allowed = makes
   valid_after (BeginKey o k) allowed = begins o k (known (is_table h o) allowed)
-  valid_after (PollKey f w) allowed = with_both f _ (λ x t future there. polls f x future t there w x.round refl)
-  valid_after (SettleKey f r) allowed = with_both f _ (λ x t future there. settles f x future t there r x.round refl)
+  valid_after (PollKey f w) allowed = by_both (λ (o : Outcome Tables). AreValid o.hall) h f _ valid (λ x t future there. polls f x future t there w x.round refl)
+  valid_after (SettleKey f r) allowed = by_both (λ (o : Outcome Tables). AreValid o.hall) h f _ valid (λ x t future there. settles f x future t there r x.round refl)
   valid_after (EndKey f) allowed = by_found (λ (o : Outcome Tables). AreValid o.hall) (get h.futures f) h _ valid (λ x future. ends f x future (get h.tables x.table) refl)
-  valid_after (TellKey o k) allowed = at_table o _ (λ t there. valid)
-  valid_after (DiscardKey o k) allowed = at_table o _ (λ t there. takes_key o k t there)
-  valid_after (RemoveKey o k) allowed = at_table o _ (λ t there. takes_key o k t there)
-  valid_after (DropTable o) allowed = at_table o _ (λ t there. drops o (not_borrowed (is_table h o) (futures_of h o) allowed))
+  valid_after (TellKey o k) allowed = by_found (λ (o : Outcome Tables). AreValid o.hall) (get h.tables o) h _ valid (λ t there. valid)
+  valid_after (DiscardKey o k) allowed = by_found (λ (o : Outcome Tables). AreValid o.hall) (get h.tables o) h _ valid (λ t there. takes_key o k t there)
+  valid_after (RemoveKey o k) allowed = by_found (λ (o : Outcome Tables). AreValid o.hall) (get h.tables o) h _ valid (λ t there. takes_key o k t there)
+  valid_after (DropTable o) allowed = by_found (λ (o : Outcome Tables). AreValid o.hall) (get h.tables o) h _ valid (λ t there. drops o (not_borrowed (is_table h o) (futures_of h o) allowed))
 
 pub nothing_valid : AreValid tables.no_tables
 nothing_valid = record {

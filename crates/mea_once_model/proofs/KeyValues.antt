@@ -11,10 +11,11 @@ use Rattle.mea_once_model.specs.Cells as cells
 use Rattle.mea_once_model.specs.Cells.{Cell, CellFuture, Step, new_cell}
 use Rattle.mea_once_model.specs.Tables as tables
 use Rattle.mea_once_model.specs.Tables.{Table, KeyFuture, Tables, is_this, is_current, closed, left, left_by, at_round, caller, others_of, without_key, new_table}
-use Rattle.mea_once_model.specs.KeyActions.{KeyAction, MakeTable, BeginKey, PollKey, SettleKey, EndKey, TellKey, DiscardKey, RemoveKey, DropTable, key_act, with_future}
+use Rattle.mea_once_model.specs.KeyActions.{KeyAction, MakeTable, BeginKey, PollKey, SettleKey, EndKey, TellKey, DiscardKey, RemoveKey, DropTable, key_act}
 use Rattle.mea_once_model.specs.KeyValid.{AreValid}
 use Rattle.mea_once_model.specs.KeyValues.{value_in, value_at, takes_away}
 use Rattle.mea_once_model.proofs.TableWakers.{LowTables}
+use Rattle.mea_once_model.proofs.TableActing.{by_both}
 
 -- what is this number is there
 this_is : (n : ℕ) (p : Option ℕ) → is_this n p ≡ true → p ≡ Some n
@@ -83,9 +84,6 @@ module _ (once : Bool) (h : Tables) (n i : ℕ) (low : LowTables h n) (later : n
   ends f x None there = had
   ends f x (Some t) there = end_in f x t there x.round
 
-  with_both : (f : ℕ) (act : KeyFuture → Table → Outcome Tables) → ((x : KeyFuture) (t : Table) → get h.tables x.table ≡ Some t → Has (act x t)) → Has (with_future h f act)
-  with_both f act some = by_found Has (get h.futures f) h _ had (λ x future. by_found Has (get h.tables x.table) h _ had (λ t there. some x t there))
-
   -- a key is taken out that is another
   discards : (p j : ℕ) → ((p == o) && (j == k)) ≡ false → (t : Table) → get h.tables p ≡ Some t → value_at (tables.with_table h p (without_key j t)) o k ≡ Some v
   discards p j other t there = changes p t (without_key j t) there (λ mine is. get-removed_other t.values j k
@@ -98,8 +96,8 @@ module _ (once : Bool) (h : Tables) (n i : ℕ) (low : LowTables h n) (later : n
       there_is None at is same = absurd (cc)
       there_is (Some t) at is same = absurd (let small = low.lows.at o t at in omega (arith, small, same, later))
   value_stays (BeginKey p j) lasts = had
-  value_stays (PollKey f w) lasts = with_both f _ (λ x t there. polls f x t there w x.round)
-  value_stays (SettleKey f r) lasts = with_both f _ (λ x t there. settles f x t there r x.round)
+  value_stays (PollKey f w) lasts = by_both Has h f _ had (λ x t future there. polls f x t there w x.round)
+  value_stays (SettleKey f r) lasts = by_both Has h f _ had (λ x t future there. settles f x t there r x.round)
   value_stays (EndKey f) lasts = by_found Has (get h.futures f) h _ had (λ x future. ends f x (get h.tables x.table) refl)
   value_stays (TellKey p j) lasts = by_found Has (get h.tables p) h _ had (λ t there. had)
   value_stays (DiscardKey p j) lasts = by_found Has (get h.tables p) h _ had (λ t there. discards p j lasts t there)

@@ -1,5 +1,5 @@
 -- what an event does to each of the lists of who waits at a cell, and so to all who wait there
-use Rattle.std.proofs.Common.{◌≡◌, ℕ, ◌+◌, ◌≤◌, ◌==◌, ◌++◌, ◌⊎◌, inl, inr, Bool, true, false, cond, length, List, [], ◌∷◌, Option, Some, None, is_some, option_to_list, rules, refl, ap, sym, subst, ◌∙◌, arith}
+use Rattle.std.proofs.Common.{◌≡◌, ℕ, ◌+◌, ◌≤◌, ◌==◌, ◌++◌, ◌⊎◌, inl, inr, Bool, true, false, cond, length, List, [], ◌∷◌, Option, Some, None, option_to_list, rules, refl, ap, sym, subst, ◌∙◌, arith}
 use Rattle.std.specs.List.{Contains}
 use Rattle.std.proofs.lemmas.Bool.{eqb-true, eq-eqb}
 use Rattle.std.proofs.lemmas.List.{length-append}
@@ -7,6 +7,7 @@ use Rattle.std.proofs.lemmas.List.Elements.{Contains-append_cases, Contains-appe
 use Rattle.mea_by_name.specs.NamedQueue.{Waiting, waker_for, waits, with_waker, without, wakers, registering}
 use Rattle.mea_by_name.proofs.NamedQueues.{Local, local_same, local_appended, local_with, local_without, local_registering, local_popped, local_drained, appended-other, with_waker-other, without-other, registering-other, length-without}
 use Rattle.mea_once_model.specs.Cells.{woken_next}
+use Rattle.mea_base.proofs.Maps.{is_absent}
 
 -- ---- who waits in one list or in another
 abbrev first_of : Option ℕ → Option ℕ → Option ℕ
@@ -27,11 +28,7 @@ pub in_second : (a b : Waiting) (f : ℕ) → waker_for a f ≡ None → waker_f
 in_second a b f none = waker_for-append a b f ∙ ap (λ o. first_of o (waker_for b f)) none
 
 pub not_waiting : (q : Waiting) (f : ℕ) → waits q f ≡ false → waker_for q f ≡ None
-not_waiting q f = at (waker_for q f)
-  where
-    at : (o : Option ℕ) → is_some o ≡ false → o ≡ None
-    at None none = refl
-    at (Some w) none = absurd (cc)
+not_waiting q f none = is_absent (waker_for q f) (λ some. absurd (cc))
 
 -- ---- a change of one list: what a change of a queue is, and none but k comes
 pub record Part (q q' : Waiting) (ws : List ℕ) (k extra : ℕ) : Type 0 where

@@ -10,7 +10,6 @@ use Rattle.mea_base.proofs.Maps.{total-gone, total-has}
 use Rattle.mea_base.proofs.Totals.{total-insert, total-remove, total-empty}
 use Rattle.mea_by_name.specs.ByName.{Names}
 use Rattle.mea_by_name.specs.NamedQueue as named_queue
-use Rattle.mea_family.specs.Play.{found}
 use Rattle.mea_by_name.proofs.Cases.{by_found, by_if}
 use Rattle.mea_by_name.proofs.NamedQueues.{Local}
 use Rattle.mea_by_name.proofs.OneObject.{Counted, counted_same}
@@ -41,6 +40,10 @@ by_rounds P once x n others t s stays goes = by_future s.future refl
     by_future : (p : Option CellFuture) → s.future ≡ p → P (left_by p x.key n others after).rounds
     by_future None over = by_if (λ (u : Table). P u.rounds) (others == 0) _ _ (λ is. rw (same) (goes over (eqb-true others 0 is))) (λ is. rw (same) stays)
     by_future (Some y) over = rw (same) stays
+
+-- what is done with a future and with its map or group, where both are there
+pub by_both : (P : Outcome Tables → Type 0) (h : Tables) (f : ℕ) (act : KeyFuture → Table → Outcome Tables) → P (quietly h answers.Done) → ((x : KeyFuture) (t : Table) → get h.futures f ≡ Some x → get h.tables x.table ≡ Some t → P (act x t)) → P (with_future h f act)
+by_both P h f act still some = by_found P (get h.futures f) h _ still (λ x future. by_found P (get h.tables x.table) h _ still (λ t there. some x t future there))
 
 -- ---- how many wakers are registered
 abbrev size : ℕ → Cell → ℕ
@@ -128,22 +131,16 @@ module _ (once : Bool) (h : Tables) (f : ℕ) (x : KeyFuture) where
   counts_end (Some t) there = counts_end_in t there x.round
 
 module _ (once : Bool) (h : Tables) (i : ℕ) where
-  counts_with : (extra f : ℕ) (act : KeyFuture → Table → Outcome Tables) → ((x : KeyFuture) (t : Table) → get h.tables x.table ≡ Some t → Counts h extra (act x t)) → Counts h extra (with_future h f act)
-  counts_with extra f act each = by_found (Counts h extra) (get h.futures f) h _ (still h extra) (λ x is. by_found (Counts h extra) (get h.tables x.table) h _ (still h extra) (λ t there. each x t there))
-
-  counts_at : (o : ℕ) (act : Table → Outcome Tables) → ((t : Table) → get h.tables o ≡ Some t → Counts h 0 (act t)) → Counts h 0 (found (get h.tables o) h act)
-  counts_at o act each = by_found (Counts h 0) (get h.tables o) h act (still h 0) each
-
   without : (o k : ℕ) (reply : Answer) (t : Table) → get h.tables o ≡ Some t → Counts h 0 (quietly (tables.with_table h o (without_key k t)) reply)
   without o k reply t there = counts_put h 0 o t (without_key k t) h.futures reply [] 0 there (counted_same waiting_at t.rounds 0) (omega arith)
 
   pub counted : (a : KeyAction) → Counts h (cond (key_registers a) 1 0) (key_act once h i a)
   counted MakeTable = record { most = omega arith; grows = omega (arith, total-insert rounds_size h.tables i new_table, total-empty {X = Cell} size) }
   counted (BeginKey o k) = counts_same h 0 _ refl refl
-  counted (PollKey f w) = counts_with 1 f _ (λ x t there. counts_poll once h i f w x t there x.round)
-  counted (SettleKey f r) = counts_with 0 f _ (λ x t there. counts_settle once h f x r t there x.round)
+  counted (PollKey f w) = by_both (Counts h 1) h f _ (still h 1) (λ x t future there. counts_poll once h i f w x t there x.round)
+  counted (SettleKey f r) = by_both (Counts h 0) h f _ (still h 0) (λ x t future there. counts_settle once h f x r t there x.round)
   counted (EndKey f) = by_found (Counts h 0) (get h.futures f) h _ (still h 0) (λ x is. counts_end once h f x (get h.tables x.table) refl)
-  counted (TellKey o k) = counts_at o _ (λ t there. counts_same h 0 _ refl refl)
-  counted (DiscardKey o k) = counts_at o _ (λ t there. without o k answers.Done t there)
-  counted (RemoveKey o k) = counts_at o _ (λ t there. without o k _ t there)
-  counted (DropTable o) = counts_at o _ (λ t there. record { most = omega arith; grows = omega (arith, total-gone rounds_size h.tables o) })
+  counted (TellKey o k) = by_found (Counts h 0) (get h.tables o) h _ (still h 0) (λ t there. counts_same h 0 _ refl refl)
+  counted (DiscardKey o k) = by_found (Counts h 0) (get h.tables o) h _ (still h 0) (λ t there. without o k answers.Done t there)
+  counted (RemoveKey o k) = by_found (Counts h 0) (get h.tables o) h _ (still h 0) (λ t there. without o k _ t there)
+  counted (DropTable o) = by_found (Counts h 0) (get h.tables o) h _ (still h 0) (λ t there. record { most = omega arith; grows = omega (arith, total-gone rounds_size h.tables o) })

@@ -19,7 +19,7 @@ use Rattle.mea_once_model.specs.Cells as cells
 use Rattle.mea_once_model.specs.Cells.{Cell, CellFuture, Step, waiting_at, new_cell}
 use Rattle.mea_once_model.specs.Tables as tables
 use Rattle.mea_once_model.specs.Tables.{Table, KeyFuture, Tables, is_future, closed, left_by, at_round, caller, caller_after, others_of, new_table, placed_in, placed_of, rounds_of}
-use Rattle.mea_once_model.specs.KeyActions.{KeyAction, MakeTable, BeginKey, PollKey, SettleKey, EndKey, TellKey, DiscardKey, RemoveKey, DropTable, key_act, key_cause, key_polled, key_ends}
+use Rattle.mea_once_model.specs.KeyActions.{KeyAction, PollKey, SettleKey, key_act, key_cause, key_polled, key_ends}
 use Rattle.mea_once_model.proofs.CellWakers.{Placed, poll_places, poll_waits}
 use Rattle.mea_once_model.proofs.TableActing.{closed-rounds}
 use Rattle.mea_once_model.proofs.TableWakers.{Below, LowTables, TablesGo, Same, Put, Made, Gone, KeyGoes, silent, of_table, key_goes, later_below}
@@ -113,7 +113,7 @@ module _ (once : Bool) (h : Tables) (i f w : ℕ) where
   module _ (x : KeyFuture) (r others : ℕ) (t : Table) (s : Step) where
     -- a caller that waits on has this waker
     stands : (p : Option CellFuture) (y : CellFuture) → p ≡ Some y → waker_for (waiting_at s.cell) f ≡ Some w
-        → tables.placed (record { tables = insert h.tables x.table (left_by p x.key r others (closed once x.key r s.cell.value (record t { rounds = insert t.rounds r s.cell }))); futures = tables.turned_to h.futures f (caller_after r x p) }) f ≡ Some w
+        → tables.placed (record { tables = insert h.tables x.table (left_by p x.key r others (closed once x.key r s.cell.value (record t { rounds = insert t.rounds r s.cell }))); futures = cells.turned_to h.futures f (caller_after r x p) }) f ≡ Some w
     stands None y there waker = absurd (cc)
     stands (Some z) y there waker =
         let u : Table = closed once x.key r s.cell.value (record t { rounds = insert t.rounds r s.cell }) in
@@ -168,14 +168,7 @@ module _ (once : Bool) (h : Tables) (i f w : ℕ) where
 -- an action that polls f is a poll of f
 pub same_key_poll : (a : KeyAction) (f w : ℕ) (P : KeyAction → Type 0) → ((v : ℕ) → v ≡ w → P (PollKey f v)) → key_polled a f ≡ Some w → P a
 same_key_poll (PollKey g v) f w P here is = let test = cond_some (g == f) v w is in subst (λ j. P (PollKey j v)) (sym (eqb-true g f test.0)) (here v test.1)
-same_key_poll MakeTable f w P here is = absurd (cc)
-same_key_poll (BeginKey o k) f w P here is = absurd (cc)
-same_key_poll (SettleKey k r) f w P here is = absurd (cc)
-same_key_poll (EndKey k) f w P here is = absurd (cc)
-same_key_poll (TellKey o k) f w P here is = absurd (cc)
-same_key_poll (DiscardKey o k) f w P here is = absurd (cc)
-same_key_poll (RemoveKey o k) f w P here is = absurd (cc)
-same_key_poll (DropTable o) f w P here is = absurd (cc)
+same_key_poll _ f w P here is = absurd (cc)
 
 pub key_lives : (h : Tables) (a : KeyAction) (f w : ℕ) → key_polled a f ≡ Some w → key_cause h a ≡ None → is_future h f ≡ true
 key_lives h a f w is = same_key_poll a f w (λ a. key_cause h a ≡ None → is_future h f ≡ true) (λ v same none. known (is_future h f) none) is

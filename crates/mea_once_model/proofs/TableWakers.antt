@@ -19,10 +19,10 @@ use Rattle.mea_once_model.specs.Cells as cells
 use Rattle.mea_once_model.specs.Cells.{Cell, CellFuture, Step, waiting_at, new_cell}
 use Rattle.mea_once_model.specs.Tables as tables
 use Rattle.mea_once_model.specs.Tables.{Table, KeyFuture, Tables, is_this, is_current, closed, left, left_by, at_round, caller, caller_after, others_of, without_key, new_table, futures_of, is_table}
-use Rattle.mea_once_model.specs.KeyActions.{KeyAction, MakeTable, BeginKey, PollKey, SettleKey, EndKey, TellKey, DiscardKey, RemoveKey, DropTable, key_act, key_cause, key_polled, key_ends, with_future}
+use Rattle.mea_once_model.specs.KeyActions.{KeyAction, MakeTable, BeginKey, PollKey, SettleKey, EndKey, TellKey, DiscardKey, RemoveKey, DropTable, key_act, key_cause, key_polled, key_ends}
 use Rattle.mea_once_model.proofs.Acting.{Fine, polls, ends_local, settles_local, ends_gone}
 use Rattle.mea_family.proofs.Refusals.{not_borrowed}
-use Rattle.mea_once_model.proofs.TableActing.{by_rounds}
+use Rattle.mea_once_model.proofs.TableActing.{by_rounds, by_both}
 
 -- ---- names stay below the next number: of maps and groups, of futures, and of rounds
 pub record Below (m : Names ℕ) (n : ℕ) : Type 0 where
@@ -125,23 +125,21 @@ module _ (h : Tables) (n i : ℕ) (low : LowTables h n) (later : n ≤ i) where
       let one : ◌≡◌ {A = ℕ} (cond (is_this m y.round) 1 0) 1 = ap (λ r. cond (is_this m r) 1 0) round ∙ ap (λ b. cond b 1 0) (eq-eqb m m refl) in
       absurd (omega (arith, none, one, total-has (λ k (x : KeyFuture). cond (is_this m x.round) 1 0) (own (λ (x : KeyFuture). x.table) o (remove h.futures f)) g y here))
 
+  -- ---- an event that changes no future
+  as_before : (a : KeyAction) → ((f : ℕ) → key_ends a f ≡ true → get h.futures f ≡ None) → (ts : Names Table) (reply : Answer) → TablesGo h i i ts [] → KeyGoes h i a (quietly (record h { tables = ts }) reply)
+  as_before a over ts reply go = record { k = i; touches = None_is refl; tables = go; others = λ g y apart is. still_same h.futures g y is; each = fits_old; over = over }
+
   -- ---- an event that ends nobody
   module _ (a : KeyAction) (none : (f : ℕ) → key_ends a f ≡ true → ⊥) where
-    tells : (o : Outcome Tables) → o.hall ≡ h → o.wakes ≡ [] → KeyGoes h i a o
-    tells o same silent = rw (same, silent) (record { k = i; touches = None_is refl; tables = Same; others = λ g y apart is. still_same h.futures g y is; each = fits_old; over = λ f is. absurd (none f is) })
+    tells : (reply : Answer) → KeyGoes h i a (quietly h reply)
+    tells reply = as_before a (λ f is. absurd (none f is)) h.tables reply Same
 
     still : KeyGoes h i a (quietly h answers.Done)
-    still = tells (quietly h answers.Done) refl refl
+    still = tells answers.Done
 
     without : (o k : ℕ) (reply : Answer) (t : Table) → get h.tables o ≡ Some t → KeyGoes h i a (quietly (tables.with_table h o (without_key k t)) reply)
-    without o k reply t there = record {
-      k = i;
-      touches = None_is refl;
-      tables = Put o t (without_key k t) [] there (record { keeps = λ g w n y apart is mine round placed. inl placed }) (below_without t.current (i + 1) k (later_below o t there));
-      others = λ g y apart is. still_same h.futures g y is;
-      each = fits_old;
-      over = λ f is. absurd (none f is);
-    }
+    without o k reply t there = as_before a (λ f is. absurd (none f is)) _ reply
+        (Put o t (without_key k t) [] there (record { keeps = λ g w n y apart is mine round placed. inl placed }) (below_without t.current (i + 1) k (later_below o t there)))
 
     -- a further future
     begins : (o : ℕ) (z : KeyFuture) → z.table ≡ o → z.round ≡ None → is_table h o ≡ true → KeyGoes h i a (quietly (record h { futures = insert h.futures i z }) answers.Made)
@@ -172,24 +170,17 @@ module _ (h : Tables) (n i : ℕ) (low : LowTables h n) (later : n ≤ i) where
         (λ y is. let same : x ≡ y = inside (sym future ∙ is) in record { future = z; there = refl; table = home ∙ ap (λ (x : KeyFuture). x.table) same; round = round ∙ ap (λ (x : KeyFuture). x.round) same })
         (λ g apart y is. still_same h.futures g y is)
 
-    after_others : (p : Option KeyFuture) (g : ℕ) (y : KeyFuture) → (f ≡ g → ⊥) → get h.futures g ≡ Some y → StillAt y (get (tables.turned_to h.futures f p) g)
+    after_others : (p : Option KeyFuture) (g : ℕ) (y : KeyFuture) → (f ≡ g → ⊥) → get h.futures g ≡ Some y → StillAt y (get (cells.turned_to h.futures f p) g)
     after_others None g y apart is = record { future = y; there = get-removed_other h.futures f g apart ∙ is; table = refl; round = refl }
     after_others (Some z) g y apart is = record { future = y; there = get-other h.futures f g z apart ∙ is; table = refl; round = refl }
 
-    after_each : (r : ℕ) → r < i + 1 → (p : Option CellFuture) (g : ℕ) (y : KeyFuture) → get (tables.turned_to h.futures f (caller_after r x p)) g ≡ Some y → Fits h i g y
+    after_each : (r : ℕ) → r < i + 1 → (p : Option CellFuture) (g : ℕ) (y : KeyFuture) → get (cells.turned_to h.futures f (caller_after r x p)) g ≡ Some y → Fits h i g y
     after_each r small None g y is = fits_old g y (removed_there h.futures f g y is)
     after_each r small (Some z) g y is = changed (record x { init = cells.init_of z.errand; round = Some r }) refl (λ m is. let same : r ≡ m = inside is in omega (arith, same, small)) g y is
 
     -- it is gone
-    forgets : (a : KeyAction) → Touches silent of_table (key_polled a) (key_ends a) i f → ((g : ℕ) → key_ends a g ≡ true → g ≡ f) → KeyGoes h i a (tables.forgets h f)
-    forgets a touches only = record {
-      k = f;
-      touches = touches;
-      tables = Same;
-      others = after_others None;
-      each = λ g y is. fits_old g y (removed_there h.futures f g y is);
-      over = λ g is. rw (only g is) (get-gone h.futures f);
-    }
+    goes_out : (a : KeyAction) → Touches silent of_table (key_polled a) (key_ends a) i f → ((g : ℕ) → key_ends a g ≡ true → g ≡ f) → (ts : Names Table) (reply : Answer) → TablesGo h i f ts [] → KeyGoes h i a (quietly (record { tables = ts; futures = remove h.futures f }) reply)
+    goes_out a touches only ts reply go = record { k = f; touches = touches; tables = go; others = after_others None; each = λ g y is. fits_old g y (removed_there h.futures f g y is); over = λ g is. rw (only g is) (get-gone h.futures f) }
 
     module _ (once : Bool) (t : Table) (there : get h.tables x.table ≡ Some t) where
       -- a step that touches k alone, at a round whose cell is this for all callers beside
@@ -217,8 +208,8 @@ module _ (h : Tables) (n i : ℕ) (low : LowTables h n) (later : n ≤ i) where
         keeps_step = subst (λ rs. RoundsKeep h x.table rs (at_round once x r (others_of h f x.table r) u s).table.rounds s.wakes k) same (by_rounds Keeps once x r (others_of h f x.table r) u s keeps_put keeps_gone)
 
         steps : (a : KeyAction) → Touches silent of_table (key_polled a) (key_ends a) i k
-            → ((g : ℕ) (y : KeyFuture) → (k ≡ g → ⊥) → get h.futures g ≡ Some y → StillAt y (get (tables.turned_to h.futures f (caller_after r x s.future)) g))
-            → ((g : ℕ) → key_ends a g ≡ true → get (tables.turned_to h.futures f (caller_after r x s.future)) g ≡ None)
+            → ((g : ℕ) (y : KeyFuture) → (k ≡ g → ⊥) → get h.futures g ≡ Some y → StillAt y (get (cells.turned_to h.futures f (caller_after r x s.future)) g))
+            → ((g : ℕ) → key_ends a g ≡ true → get (cells.turned_to h.futures f (caller_after r x s.future)) g ≡ None)
             → r < i + 1 → Below u.current (i + 1) → KeyGoes h i a (tables.applied h f x.table (at_round once x r (others_of h f x.table r) u s))
         steps a touches others over small below = record {
           k = k;
@@ -254,14 +245,7 @@ module _ (h : Tables) (n i : ℕ) (low : LowTables h n) (later : n ≤ i) where
 
         firsts : (p : Option ℕ) → KeyGoes h i (PollKey f w) (tables.first_poll once h i f w x t p)
         firsts None = joins (get t.current x.key) refl
-        firsts (Some v) = record {
-          k = f;
-          touches = polled;
-          tables = Put x.table t t [] there (record { keeps = λ g u m y apart at mine round placed. inl placed }) (later_below x.table t there);
-          others = after_others None;
-          each = λ g y is. fits_old g y (removed_there h.futures f g y is);
-          over = λ g is. absurd (nobody g is);
-        }
+        firsts (Some v) = goes_out (PollKey f w) polled (λ g is. absurd (nobody g is)) _ _ (Put x.table t t [] there (record { keeps = λ g u m y apart at mine round placed. inl placed }) (later_below x.table t there))
 
         goes_poll : (p : Option ℕ) → x.round ≡ p → KeyGoes h i (PollKey f w) (tables.poll once h i f w x t p)
         goes_poll None is = firsts (get t.values x.key)
@@ -293,60 +277,42 @@ module _ (h : Tables) (n i : ℕ) (low : LowTables h n) (later : n ≤ i) where
     only : (g : ℕ) → key_ends (EndKey f) g ≡ true → g ≡ f
     only g is = sym (eqb-true f g is)
 
+    forgets : KeyGoes h i (EndKey f) (tables.forgets h f)
+    forgets = goes_out (EndKey f) ended only h.tables answers.Done Same
+
     end_at : (once : Bool) (t : Table) → get h.tables x.table ≡ Some t → (r : ℕ) → x.round ≡ Some r → (p : Option Cell) → get t.rounds r ≡ p → KeyGoes h i (EndKey f) (tables.end_at once h f x t r p)
-    end_at once t there r is None at = forgets (EndKey f) ended only
+    end_at once t there r is None at = forgets
     end_at once t there r is (Some c) at = steps once t there f r 0 t c (cells.end f (caller x) c) refl (λ over. refl) (λ g v y apart home mine round placed. at_cell once t there r c at g v placed) (ends_local f 0 (caller x) c)
         (EndKey f) ended (after_others _)
-        (λ g end. rw (only g end) (subst (λ p. get (tables.turned_to h.futures f (caller_after r x p)) f ≡ None) (sym (ends_gone f (caller x) c)) (get-gone h.futures f)))
+        (λ g end. rw (only g end) (subst (λ p. get (cells.turned_to h.futures f (caller_after r x p)) f ≡ None) (sym (ends_gone f (caller x) c)) (get-gone h.futures f)))
         (omega (arith, low.rounds f r x future is, later)) (later_below x.table t there)
 
     end_in : (once : Bool) (t : Table) → get h.tables x.table ≡ Some t → (p : Option ℕ) → x.round ≡ p → KeyGoes h i (EndKey f) (tables.end_in once h f x t p)
-    end_in once t there None is = forgets (EndKey f) ended only
+    end_in once t there None is = forgets
     end_in once t there (Some r) is = end_at once t there r is (get t.rounds r) refl
 
     goes_end : (once : Bool) (p : Option Table) → get h.tables x.table ≡ p → KeyGoes h i (EndKey f) (tables.end once h f x p)
-    goes_end once None there = forgets (EndKey f) ended only
+    goes_end once None there = forgets
     goes_end once (Some t) there = end_in once t there x.round refl
 
   -- ---- every action
-  with_both : (a : KeyAction) (none : (f : ℕ) → key_ends a f ≡ true → ⊥) (f : ℕ) (act : KeyFuture → Table → Outcome Tables)
-      → ((x : KeyFuture) (t : Table) → get h.futures f ≡ Some x → get h.tables x.table ≡ Some t → KeyGoes h i a (act x t)) → KeyGoes h i a (with_future h f act)
-  with_both a none f act some = by_found (KeyGoes h i a) (get h.futures f) h _ (still a none) (λ x future. by_found (KeyGoes h i a) (get h.tables x.table) h _ (still a none) (λ t there. some x t future there))
-
-  at_table : (a : KeyAction) (none : (f : ℕ) → key_ends a f ≡ true → ⊥) (o : ℕ) (act : Table → Outcome Tables) → ((t : Table) → get h.tables o ≡ Some t → KeyGoes h i a (act t)) → KeyGoes h i a (found (get h.tables o) h act)
-  at_table a none o act some = by_found (KeyGoes h i a) (get h.tables o) h act (still a none) some
-
   nobody_ends : (k : ℕ) → get h.futures k ≡ None → KeyGoes h i (EndKey k) (quietly h answers.Done)
-  nobody_ends k absent = record {
-    k = i;
-    touches = None_is refl;
-    tables = Same;
-    others = λ g y apart is. still_same h.futures g y is;
-    each = fits_old;
-    over = λ f is. ap (get h.futures) (sym (eqb-true k f is)) ∙ absent;
-  }
+  nobody_ends k absent = as_before (EndKey k) (λ f is. ap (get h.futures) (sym (eqb-true k f is)) ∙ absent) h.tables answers.Done Same
 
   ends : (once : Bool) (k : ℕ) (p : Option KeyFuture) → get h.futures k ≡ p → KeyGoes h i (EndKey k) (found p h (λ x. tables.end once h k x (get h.tables x.table)))
   ends once k None absent = nobody_ends k absent
   ends once k (Some x) future = goes_end k x future once (get h.tables x.table) refl
 
   drops : (o : ℕ) (t : Table) → get h.tables o ≡ Some t → futures_of h o ≡ 0 → KeyGoes h i (DropTable o) (quietly (record h { tables = remove h.tables o }) answers.Done)
-  drops o t there alone = record {
-    k = i;
-    touches = None_is refl;
-    tables = Gone o (λ f x is mine. own-nothing of_table o h.futures alone f x is mine);
-    others = λ g y apart is. still_same h.futures g y is;
-    each = fits_old;
-    over = λ f is. absurd (cc);
-  }
+  drops o t there alone = as_before (DropTable o) (λ f is. absurd (cc)) _ answers.Done (Gone o (λ f x is mine. own-nothing of_table o h.futures alone f x is mine))
 
   pub key_goes : (once : Bool) (a : KeyAction) → key_cause h a ≡ None → KeyGoes h i a (key_act once h i a)
-  key_goes once MakeTable allowed = record { k = i; touches = None_is refl; tables = Made; others = λ g y apart is. still_same h.futures g y is; each = fits_old; over = λ f is. absurd (cc) }
+  key_goes once MakeTable allowed = as_before MakeTable (λ f is. absurd (cc)) _ _ Made
   key_goes once (BeginKey o k) allowed = begins (BeginKey o k) (λ f is. absurd (cc)) o _ refl refl (known (is_table h o) allowed)
-  key_goes once (PollKey f w) allowed = with_both (PollKey f w) (λ g is. absurd (cc)) f _ (λ x t future there. goes_poll f x future once t there w x.round refl)
-  key_goes once (SettleKey f r) allowed = with_both (SettleKey f r) (λ g is. absurd (cc)) f _ (λ x t future there. goes_settle f x future once t there r x.round refl)
+  key_goes once (PollKey f w) allowed = by_both (KeyGoes h i (PollKey f w)) h f _ (still (PollKey f w) (λ g is. absurd (cc))) (λ x t future there. goes_poll f x future once t there w x.round refl)
+  key_goes once (SettleKey f r) allowed = by_both (KeyGoes h i (SettleKey f r)) h f _ (still (SettleKey f r) (λ g is. absurd (cc))) (λ x t future there. goes_settle f x future once t there r x.round refl)
   key_goes once (EndKey f) allowed = ends once f (get h.futures f) refl
-  key_goes once (TellKey o k) allowed = at_table (TellKey o k) (λ g is. absurd (cc)) o _ (λ t there. tells (TellKey o k) (λ g is. absurd (cc)) _ refl refl)
-  key_goes once (DiscardKey o k) allowed = at_table (DiscardKey o k) (λ g is. absurd (cc)) o _ (λ t there. without (DiscardKey o k) (λ g is. absurd (cc)) o k answers.Done t there)
-  key_goes once (RemoveKey o k) allowed = at_table (RemoveKey o k) (λ g is. absurd (cc)) o _ (λ t there. without (RemoveKey o k) (λ g is. absurd (cc)) o k _ t there)
-  key_goes once (DropTable o) allowed = at_table (DropTable o) (λ g is. absurd (cc)) o _ (λ t there. drops o t there (not_borrowed (is_table h o) (futures_of h o) allowed))
+  key_goes once (TellKey o k) allowed = by_found (KeyGoes h i (TellKey o k)) (get h.tables o) h _ (still (TellKey o k) (λ g is. absurd (cc))) (λ t there. tells (TellKey o k) (λ g is. absurd (cc)) _)
+  key_goes once (DiscardKey o k) allowed = by_found (KeyGoes h i (DiscardKey o k)) (get h.tables o) h _ (still (DiscardKey o k) (λ g is. absurd (cc))) (λ t there. without (DiscardKey o k) (λ g is. absurd (cc)) o k answers.Done t there)
+  key_goes once (RemoveKey o k) allowed = by_found (KeyGoes h i (RemoveKey o k)) (get h.tables o) h _ (still (RemoveKey o k) (λ g is. absurd (cc))) (λ t there. without (RemoveKey o k) (λ g is. absurd (cc)) o k _ t there)
+  key_goes once (DropTable o) allowed = by_found (KeyGoes h i (DropTable o)) (get h.tables o) h _ (still (DropTable o) (λ g is. absurd (cc))) (λ t there. drops o t there (not_borrowed (is_table h o) (futures_of h o) allowed))

@@ -19,16 +19,14 @@ cells_there h Onces p = refl
 cells_there h OnceCells p = refl
 
 pub cells_apart : (h : OnceHall) (j k : Kind) (p : Cells) → is_kind j k ≡ false → part (with_part h j p) k ≡ part h k
-cells_apart h Onces Onces p is = absurd (cc)
 cells_apart h Onces OnceCells p is = refl
 cells_apart h OnceCells Onces p is = refl
-cells_apart h OnceCells OnceCells p is = absurd (cc)
+cells_apart h _ _ p is = absurd (cc)
 
 pub cells_same : (j k : Kind) → is_kind j k ≡ true → j ≡ k
-cells_same Onces Onces is = refl
 cells_same Onces OnceCells is = absurd (cc)
 cells_same OnceCells Onces is = absurd (cc)
-cells_same OnceCells OnceCells is = refl
+cells_same _ _ is = refl
 
 pub cells_alike : (k : Kind) → is_kind k k ≡ true
 cells_alike Onces = refl
@@ -42,16 +40,14 @@ tables_there h Maps p = refl
 tables_there h Groups p = refl
 
 pub tables_apart : (h : OnceHall) (j k : TableKind) (p : Tables) → is_table_kind j k ≡ false → tables_of (with_tables h j p) k ≡ tables_of h k
-tables_apart h Maps Maps p is = absurd (cc)
 tables_apart h Maps Groups p is = refl
 tables_apart h Groups Maps p is = refl
-tables_apart h Groups Groups p is = absurd (cc)
+tables_apart h _ _ p is = absurd (cc)
 
 pub tables_same : (j k : TableKind) → is_table_kind j k ≡ true → j ≡ k
-tables_same Maps Maps is = refl
 tables_same Maps Groups is = absurd (cc)
 tables_same Groups Maps is = absurd (cc)
-tables_same Groups Groups is = refl
+tables_same _ _ is = refl
 
 pub tables_alike : (k : TableKind) → is_table_kind k k ≡ true
 tables_alike Maps = refl
@@ -63,15 +59,11 @@ table_kinds = record { same_kind = is_table_kind; part = tables_of; put = with_t
 -- the cells stay where maps or groups change, and the other way round
 pub tables_stay : (h : OnceHall) (j : Kind) (k : TableKind) (p : Cells) → tables_of (with_part h j p) k ≡ tables_of h k
 tables_stay h Onces Maps p = refl
-tables_stay h Onces Groups p = refl
-tables_stay h OnceCells Maps p = refl
-tables_stay h OnceCells Groups p = refl
+tables_stay h _ _ p = refl
 
 pub cells_stay : (h : OnceHall) (j : TableKind) (k : Kind) (p : Tables) → part (with_tables h j p) k ≡ part h k
 cells_stay h Maps Onces p = refl
-cells_stay h Maps OnceCells p = refl
-cells_stay h Groups Onces p = refl
-cells_stay h Groups OnceCells p = refl
+cells_stay h _ _ p = refl
 
 module _ {K A : Type 0} (L : Kinds K A) where
   -- those of the kind are what an event leaves, and the others are as they were

@@ -41,120 +41,90 @@ places : (h : OnceHall) (i w : ℕ) (m : Meaning) (f : Future) → polled_by m f
 places h i w (OfCells d) (AtCell k f) polls pending =
     let is = polled_kind cell_kinds d.kind k (polled_in d.action f) w polls in
     after_it cell_kinds h d.kind k (act_in (part h d.kind) i d.action).hall (λ p. cells.placed p f ≡ Some w) is.0 (cell.cell_places (part h d.kind) i f w d.action is.1 pending)
-places h i w (OfCells d) (ByKey k f) polls pending = absurd (cc)
-places h i w (OfTables d) (AtCell k f) polls pending = absurd (cc)
 places h i w (OfTables d) (ByKey k f) polls pending =
     let is = polled_kind table_kinds d.kind k (key_polled d.action f) w polls in
     after_it table_kinds h d.kind k (key_act (is_once d.kind) (tables_of h d.kind) i d.action).hall (λ p. tables.placed p f ≡ Some w) is.0 (table.key_places (is_once d.kind) (tables_of h d.kind) i f w d.action is.1 pending)
+places h i w _ _ polls pending = absurd (cc)
 
 waits_for : (h : OnceHall) (i w v : ℕ) (m : Meaning) (f : Future) → placed h f ≡ Some w → polled_by m f ≡ Some v → (step_by h i m).reply ≡ answers.Pending
 waits_for h i w v (OfCells d) (AtCell k f) is polls =
     let of_it = polled_kind cell_kinds d.kind k (polled_in d.action f) v polls in
     cell.cell_waits (part h d.kind) i f w v d.action (subst (λ j. cells.placed (part h j) f ≡ Some w) (sym of_it.0) is) of_it.1
-waits_for h i w v (OfCells d) (ByKey k f) is polls = absurd (cc)
-waits_for h i w v (OfTables d) (AtCell k f) is polls = absurd (cc)
 waits_for h i w v (OfTables d) (ByKey k f) is polls =
     let of_it = polled_kind table_kinds d.kind k (key_polled d.action f) v polls in
     table.key_waits (is_once d.kind) (tables_of h d.kind) i f w v d.action (subst (λ j. tables.placed (tables_of h j) f ≡ Some w) (sym of_it.0) is) of_it.1
+waits_for h i w v _ _ is polls = absurd (cc)
 
 goes_away : (h : OnceHall) (n i : ℕ) (m : Meaning) (f : Future) → Lows h n → n ≤ i → cause_by h m ≡ None → ends_by m f ≡ true → lives (step_by h i m).hall f ≡ false
 goes_away h n i (OfCells d) (AtCell k f) lows later allowed ends =
     let is = ended_kind cell_kinds d.kind k (ends_in d.action f) ends in
     after_it cell_kinds h d.kind k (act_in (part h d.kind) i d.action).hall (λ p. is_future p f ≡ false) is.0 (cell.ended_in (part h d.kind) i d.action f is.1)
-goes_away h n i (OfCells d) (ByKey k f) lows later allowed ends = absurd (cc)
-goes_away h n i (OfTables d) (AtCell k f) lows later allowed ends = absurd (cc)
 goes_away h n i (OfTables d) (ByKey k f) lows later allowed ends =
     let is = ended_kind table_kinds d.kind k (key_ends d.action f) ends in
     after_it table_kinds h d.kind k (key_act (is_once d.kind) (tables_of h d.kind) i d.action).hall (λ p. tables.is_future p f ≡ false) is.0
     (table.ended_in (tables_of h d.kind) n i (lows.tables d.kind) later (is_once d.kind) d.action allowed f is.1)
+goes_away h n i _ _ lows later allowed ends = absurd (cc)
 
 lives_polled : (h : OnceHall) (w : ℕ) (m : Meaning) (f : Future) → polled_by m f ≡ Some w → cause_by h m ≡ None → lives h f ≡ true
 lives_polled h w (OfCells d) (AtCell k f) polls allowed =
     let is = polled_kind cell_kinds d.kind k (polled_in d.action f) w polls in
     subst (λ j. is_future (part h j) f ≡ true) is.0 (cell.lives_if_polled (part h d.kind) d.action f w is.1 allowed)
-lives_polled h w (OfCells d) (ByKey k f) polls allowed = absurd (cc)
-lives_polled h w (OfTables d) (AtCell k f) polls allowed = absurd (cc)
 lives_polled h w (OfTables d) (ByKey k f) polls allowed =
     let is = polled_kind table_kinds d.kind k (key_polled d.action f) w polls in
     subst (λ j. tables.is_future (tables_of h j) f ≡ true) is.0 (table.key_lives (tables_of h d.kind) d.action f w is.1 allowed)
+lives_polled h w _ _ polls allowed = absurd (cc)
 
 -- ---- an event of one kind
 module _ (h : OnceHall) (n i : ℕ) (lows : Lows h n) (later : n ≤ i) where
-  module _ (d : Doing) (allowed : cause_by h (OfCells d) ≡ None) where
-    abbrev cells_after : Outcome cells.Cells
-    cells_after = act_in (part h d.kind) i d.action
+  abbrev cells_after : Doing → Outcome cells.Cells
+  cells_after d = act_in (part h d.kind) i d.action
 
-    cells_lows : Lows (step_by h i (OfCells d)).hall (i + 1)
-    cells_lows = record {
-      cells = by_kind cell_kinds h d.kind cells_after.hall (λ k p. Low p (i + 1)) (cell.low_after (part h d.kind) n i (lows.cells d.kind) later d.action allowed)
-          (λ k other. cell.low_later (part h k) n i (lows.cells k) later);
-      tables = λ k. rw (tables_stay h d.kind k cells_after.hall) (table.low_later (tables_of h k) n i (lows.tables k) later);
-    }
-
-    cells_kept : (w : ℕ) (f : Future) → placed h f ≡ Some w → polled_by (OfCells d) f ≡ None → ends_by (OfCells d) f ≡ false → (placed (step_by h i (OfCells d)).hall f ≡ Some w) ⊎ Contains cells_after.wakes w
-    cells_kept w (AtCell k f) = by_kind cell_kinds h d.kind cells_after.hall
-        (λ k p. cells.placed (part h k) f ≡ Some w → polled_by (OfCells d) (AtCell k f) ≡ None → ends_by (OfCells d) (AtCell k f) ≡ false → (cells.placed p f ≡ Some w) ⊎ Contains cells_after.wakes w)
-        (λ is quiet lasts. cell.kept_in (part h d.kind) n i (lows.cells d.kind) later d.action allowed f w is (of_mine cell_kinds d.kind _ _ _ quiet) (of_mine cell_kinds d.kind _ _ _ lasts))
-        (λ k other is quiet lasts. inl is) k
-    cells_kept w (ByKey k f) = λ is quiet lasts. rw (tables_stay h d.kind k cells_after.hall) (inl is)
-
-    cells_live : (f : Future) → lives h f ≡ true → polled_by (OfCells d) f ≡ None → ends_by (OfCells d) f ≡ false → lives (step_by h i (OfCells d)).hall f ≡ true
-    cells_live (AtCell k f) = by_kind cell_kinds h d.kind cells_after.hall
-        (λ k p. is_future (part h k) f ≡ true → polled_by (OfCells d) (AtCell k f) ≡ None → ends_by (OfCells d) (AtCell k f) ≡ false → is_future p f ≡ true)
-        (λ is quiet lasts. cell.stays_in (part h d.kind) n i (lows.cells d.kind) later d.action allowed f is (of_mine cell_kinds d.kind _ _ _ quiet) (of_mine cell_kinds d.kind _ _ _ lasts))
-        (λ k other is quiet lasts. is) k
-    cells_live (ByKey k f) = λ is quiet lasts. rw (tables_stay h d.kind k cells_after.hall) is
-
-    cells_made : (f : Future) → lives (step_by h i (OfCells d)).hall f ≡ true → (lives h f ≡ true) ⊎ (name f ≡ i)
-    cells_made (AtCell k f) = by_kind cell_kinds h d.kind cells_after.hall (λ k p. is_future p f ≡ true → (is_future (part h k) f ≡ true) ⊎ (f ≡ i))
-        (cell.made_in (part h d.kind) n i (lows.cells d.kind) later d.action allowed f) (λ k other is. inl is) k
-    cells_made (ByKey k f) = λ is. inl (subst (λ p. tables.is_future p f ≡ true) (tables_stay h d.kind k cells_after.hall) is)
-
-  module _ (d : KeyDoing) (allowed : cause_by h (OfTables d) ≡ None) where
-    abbrev tables_after : Outcome tables.Tables
-    tables_after = key_act (is_once d.kind) (tables_of h d.kind) i d.action
-
-    tables_lows : Lows (step_by h i (OfTables d)).hall (i + 1)
-    tables_lows = record {
-      cells = λ k. rw (cells_stay h d.kind k tables_after.hall) (cell.low_later (part h k) n i (lows.cells k) later);
-      tables = by_kind table_kinds h d.kind tables_after.hall (λ k p. LowTables p (i + 1)) (table.low_after (tables_of h d.kind) n i (lows.tables d.kind) later (is_once d.kind) d.action allowed)
-          (λ k other. table.low_later (tables_of h k) n i (lows.tables k) later);
-    }
-
-    tables_kept : (w : ℕ) (f : Future) → placed h f ≡ Some w → polled_by (OfTables d) f ≡ None → ends_by (OfTables d) f ≡ false → (placed (step_by h i (OfTables d)).hall f ≡ Some w) ⊎ Contains tables_after.wakes w
-    tables_kept w (AtCell k f) = λ is quiet lasts. rw (cells_stay h d.kind k tables_after.hall) (inl is)
-    tables_kept w (ByKey k f) = by_kind table_kinds h d.kind tables_after.hall
-        (λ k p. tables.placed (tables_of h k) f ≡ Some w → polled_by (OfTables d) (ByKey k f) ≡ None → ends_by (OfTables d) (ByKey k f) ≡ false → (tables.placed p f ≡ Some w) ⊎ Contains tables_after.wakes w)
-        (λ is quiet lasts. table.kept_in (tables_of h d.kind) n i (lows.tables d.kind) later (is_once d.kind) d.action allowed f w is (of_mine table_kinds d.kind _ _ _ quiet) (of_mine table_kinds d.kind _ _ _ lasts))
-        (λ k other is quiet lasts. inl is) k
-
-    tables_live : (f : Future) → lives h f ≡ true → polled_by (OfTables d) f ≡ None → ends_by (OfTables d) f ≡ false → lives (step_by h i (OfTables d)).hall f ≡ true
-    tables_live (AtCell k f) = λ is quiet lasts. rw (cells_stay h d.kind k tables_after.hall) is
-    tables_live (ByKey k f) = by_kind table_kinds h d.kind tables_after.hall
-        (λ k p. tables.is_future (tables_of h k) f ≡ true → polled_by (OfTables d) (ByKey k f) ≡ None → ends_by (OfTables d) (ByKey k f) ≡ false → tables.is_future p f ≡ true)
-        (λ is quiet lasts. table.stays_in (tables_of h d.kind) n i (lows.tables d.kind) later (is_once d.kind) d.action allowed f is (of_mine table_kinds d.kind _ _ _ quiet) (of_mine table_kinds d.kind _ _ _ lasts))
-        (λ k other is quiet lasts. is) k
-
-    tables_made : (f : Future) → lives (step_by h i (OfTables d)).hall f ≡ true → (lives h f ≡ true) ⊎ (name f ≡ i)
-    tables_made (AtCell k f) = λ is. inl (subst (λ p. is_future p f ≡ true) (cells_stay h d.kind k tables_after.hall) is)
-    tables_made (ByKey k f) = by_kind table_kinds h d.kind tables_after.hall (λ k p. tables.is_future p f ≡ true → (tables.is_future (tables_of h k) f ≡ true) ⊎ (f ≡ i))
-        (table.made_in (tables_of h d.kind) n i (lows.tables d.kind) later (is_once d.kind) d.action allowed f) (λ k other is. inl is) k
+  abbrev tables_after : KeyDoing → Outcome tables.Tables
+  tables_after d = key_act (is_once d.kind) (tables_of h d.kind) i d.action
 
   lows_after : (m : Meaning) → cause_by h m ≡ None → Lows (step_by h i m).hall (i + 1)
-  lows_after (OfCells d) allowed = cells_lows d allowed
-  lows_after (OfTables d) allowed = tables_lows d allowed
+  lows_after (OfCells d) allowed = record {
+    cells = by_kind cell_kinds h d.kind (cells_after d).hall (λ k p. Low p (i + 1)) (cell.low_after (part h d.kind) n i (lows.cells d.kind) later d.action allowed)
+        (λ k other. cell.low_later (part h k) n i (lows.cells k) later);
+    tables = λ k. rw (tables_stay h d.kind k (cells_after d).hall) (table.low_later (tables_of h k) n i (lows.tables k) later);
+  }
+  lows_after (OfTables d) allowed = record {
+    cells = λ k. rw (cells_stay h d.kind k (tables_after d).hall) (cell.low_later (part h k) n i (lows.cells k) later);
+    tables = by_kind table_kinds h d.kind (tables_after d).hall (λ k p. LowTables p (i + 1)) (table.low_after (tables_of h d.kind) n i (lows.tables d.kind) later (is_once d.kind) d.action allowed)
+        (λ k other. table.low_later (tables_of h k) n i (lows.tables k) later);
+  }
 
   kept : (w : ℕ) (m : Meaning) → cause_by h m ≡ None → (f : Future) → placed h f ≡ Some w → polled_by m f ≡ None → ends_by m f ≡ false → (placed (step_by h i m).hall f ≡ Some w) ⊎ Contains (step_by h i m).wakes w
-  kept w (OfCells d) allowed f = cells_kept d allowed w f
-  kept w (OfTables d) allowed f = tables_kept d allowed w f
+  kept w (OfCells d) allowed (AtCell k f) = by_kind cell_kinds h d.kind (cells_after d).hall
+      (λ k p. cells.placed (part h k) f ≡ Some w → polled_by (OfCells d) (AtCell k f) ≡ None → ends_by (OfCells d) (AtCell k f) ≡ false → (cells.placed p f ≡ Some w) ⊎ Contains (cells_after d).wakes w)
+      (λ is quiet lasts. cell.kept_in (part h d.kind) n i (lows.cells d.kind) later d.action allowed f w is (of_mine cell_kinds d.kind _ _ _ quiet) (of_mine cell_kinds d.kind _ _ _ lasts))
+      (λ k other is quiet lasts. inl is) k
+  kept w (OfCells d) allowed (ByKey k f) = λ is quiet lasts. rw (tables_stay h d.kind k (cells_after d).hall) (inl is)
+  kept w (OfTables d) allowed (AtCell k f) = λ is quiet lasts. rw (cells_stay h d.kind k (tables_after d).hall) (inl is)
+  kept w (OfTables d) allowed (ByKey k f) = by_kind table_kinds h d.kind (tables_after d).hall
+      (λ k p. tables.placed (tables_of h k) f ≡ Some w → polled_by (OfTables d) (ByKey k f) ≡ None → ends_by (OfTables d) (ByKey k f) ≡ false → (tables.placed p f ≡ Some w) ⊎ Contains (tables_after d).wakes w)
+      (λ is quiet lasts. table.kept_in (tables_of h d.kind) n i (lows.tables d.kind) later (is_once d.kind) d.action allowed f w is (of_mine table_kinds d.kind _ _ _ quiet) (of_mine table_kinds d.kind _ _ _ lasts))
+      (λ k other is quiet lasts. inl is) k
 
   stays : (m : Meaning) → cause_by h m ≡ None → (f : Future) → lives h f ≡ true → polled_by m f ≡ None → ends_by m f ≡ false → lives (step_by h i m).hall f ≡ true
-  stays (OfCells d) allowed f = cells_live d allowed f
-  stays (OfTables d) allowed f = tables_live d allowed f
+  stays (OfCells d) allowed (AtCell k f) = by_kind cell_kinds h d.kind (cells_after d).hall
+      (λ k p. is_future (part h k) f ≡ true → polled_by (OfCells d) (AtCell k f) ≡ None → ends_by (OfCells d) (AtCell k f) ≡ false → is_future p f ≡ true)
+      (λ is quiet lasts. cell.stays_in (part h d.kind) n i (lows.cells d.kind) later d.action allowed f is (of_mine cell_kinds d.kind _ _ _ quiet) (of_mine cell_kinds d.kind _ _ _ lasts))
+      (λ k other is quiet lasts. is) k
+  stays (OfCells d) allowed (ByKey k f) = λ is quiet lasts. rw (tables_stay h d.kind k (cells_after d).hall) is
+  stays (OfTables d) allowed (AtCell k f) = λ is quiet lasts. rw (cells_stay h d.kind k (tables_after d).hall) is
+  stays (OfTables d) allowed (ByKey k f) = by_kind table_kinds h d.kind (tables_after d).hall
+      (λ k p. tables.is_future (tables_of h k) f ≡ true → polled_by (OfTables d) (ByKey k f) ≡ None → ends_by (OfTables d) (ByKey k f) ≡ false → tables.is_future p f ≡ true)
+      (λ is quiet lasts. table.stays_in (tables_of h d.kind) n i (lows.tables d.kind) later (is_once d.kind) d.action allowed f is (of_mine table_kinds d.kind _ _ _ quiet) (of_mine table_kinds d.kind _ _ _ lasts))
+      (λ k other is quiet lasts. is) k
 
   made : (m : Meaning) → cause_by h m ≡ None → (f : Future) → lives (step_by h i m).hall f ≡ true → (lives h f ≡ true) ⊎ (name f ≡ i)
-  made (OfCells d) allowed f = cells_made d allowed f
-  made (OfTables d) allowed f = tables_made d allowed f
+  made (OfCells d) allowed (AtCell k f) = by_kind cell_kinds h d.kind (cells_after d).hall (λ k p. is_future p f ≡ true → (is_future (part h k) f ≡ true) ⊎ (f ≡ i))
+      (cell.made_in (part h d.kind) n i (lows.cells d.kind) later d.action allowed f) (λ k other is. inl is) k
+  made (OfCells d) allowed (ByKey k f) = λ is. inl (subst (λ p. tables.is_future p f ≡ true) (tables_stay h d.kind k (cells_after d).hall) is)
+  made (OfTables d) allowed (AtCell k f) = λ is. inl (subst (λ p. is_future p f ≡ true) (cells_stay h d.kind k (tables_after d).hall) is)
+  made (OfTables d) allowed (ByKey k f) = by_kind table_kinds h d.kind (tables_after d).hall (λ k p. tables.is_future p f ≡ true → (tables.is_future (tables_of h k) f ≡ true) ⊎ (f ≡ i))
+      (table.made_in (tables_of h d.kind) n i (lows.tables d.kind) later (is_once d.kind) d.action allowed f) (λ k other is. inl is) k
 
 -- ---- the laws
 nothing_low : Lows onces_family.empty 0

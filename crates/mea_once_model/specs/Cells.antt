@@ -10,7 +10,7 @@ use Rattle.mea_once_model.specs.declared.errand.Initialiser.TheVariants.{Unsettl
 use Rattle.mea_once_model.specs.declared.errand.Errand.{Errand}
 use Rattle.mea_once_model.specs.declared.errand.Errand.TheVariants.{Calls, Computes, Alone, Sets, Inserts, Awaits}
 use Rattle.mea_once_model.specs.declared.whole_use.WholeUse.{WholeUse}
-use Rattle.mea_once_model.specs.declared.whole_use.WholeUse.TheVariants.{Tells, Writes, Takes}
+use Rattle.mea_once_model.specs.declared.whole_use.WholeUse.TheVariants.{Tells, Writes}
 use Rattle.mea_by_name.specs.ByName.{Names, names_code, own, count}
 use Rattle.mea_by_name.specs.NamedQueue as named_queue
 use Rattle.mea_by_name.specs.NamedQueue.{Waiting, waker_for, waits, with_waker, without, wakers, registering}
@@ -49,17 +49,14 @@ is_future h f = is_some (get h.futures f)
 
 abbrev pub is_open : Initialiser → Bool
 is_open Unsettled = true
-is_open (Gives v) = false
-is_open (Fails e) = false
+is_open _ = false
 
 -- whether it has an initialiser that is not settled
 abbrev pub can_settle : Errand → Bool
 can_settle (Calls i) = is_open i
 can_settle (Computes i) = is_open i
 can_settle (Alone i) = is_open i
-can_settle (Sets v) = false
-can_settle (Inserts v) = false
-can_settle Awaits = false
+can_settle _ = false
 
 abbrev pub settles_in : Option CellFuture → Bool
 settles_in None = false
@@ -95,21 +92,18 @@ placed h f = named_queue.placed waiting_at (λ (x : CellFuture). x.cell) h.cells
 -- ---- what is told
 -- where the cell was full with v
 abbrev pub found_full : Errand → ℕ → Answer
-found_full (Calls i) v = answers.Ready
 found_full (Computes i) v = answers.Value v
 found_full (Alone i) v = answers.Value v
 found_full (Sets u) v = answers.Back u
 found_full (Inserts u) v = answers.Kept v u
-found_full Awaits v = answers.Ready
+found_full _ v = answers.Ready
 
 -- where this future filled it with v
 abbrev pub has_filled : Errand → ℕ → Answer
 has_filled (Calls i) v = answers.Ready
-has_filled (Computes i) v = answers.Value v
-has_filled (Alone i) v = answers.Value v
 has_filled (Sets u) v = answers.Accepted
-has_filled (Inserts u) v = answers.Value v
 has_filled Awaits v = answers.Ready
+has_filled _ v = answers.Value v
 
 -- ---- what becomes of a cell
 abbrev pub new_cell : Option ℕ → Cell
@@ -231,7 +225,7 @@ end f x c =
     else leaves (record c { runner = without c.runner f }) answers.Done []
 
 -- this is what becomes of a future
-abbrev pub turned_to : Names CellFuture → ℕ → Option CellFuture → Names CellFuture
+abbrev pub turned_to : {X : Type 0} → Names X → ℕ → Option X → Names X
 turned_to fs f None = remove fs f
 turned_to fs f (Some y) = insert fs f y
 
@@ -254,16 +248,14 @@ tell_full h c = quietly h (if is_some c.value then answers.Yes else answers.No)
 -- the value after a use of the whole cell
 abbrev pub value_after : WholeUse → Option ℕ → Option ℕ
 value_after Tells v = v
-value_after (Writes u) None = None
 value_after (Writes u) (Some v) = Some u
-value_after Takes v = None
+value_after _ _ = None
 
 -- the reply to it
 abbrev pub reply_to : WholeUse → Option ℕ → Answer
-reply_to Tells v = content v
 reply_to (Writes u) None = answers.Lacking
 reply_to (Writes u) (Some v) = answers.Done
-reply_to Takes v = content v
+reply_to _ v = content v
 
 -- the value of a cell that has no future is used
 abbrev pub use_whole : Cells → ℕ → WholeUse → Cell → Outcome Cells
@@ -294,8 +286,7 @@ init_of_number (suc (suc n), v) = Fails v
 
 pub init_back : (i : Initialiser) → init_of_number (init_number i) ≡ i
 init_back Unsettled = refl
-init_back (Gives v) = refl
-init_back (Fails e) = refl
+init_back _ = refl
 
 abbrev pub init_code : Coded Initialiser
 init_code = code_by (ℕ × ℕ) (coded× coded_ℕ coded_ℕ) init_number init_of_number init_back
@@ -318,11 +309,7 @@ errand_of_number (suc (suc (suc (suc (suc n)))), p) = Awaits
 
 pub errand_back : (x : Errand) → errand_of_number (errand_number x) ≡ x
 errand_back (Calls i) = refl
-errand_back (Computes i) = refl
-errand_back (Alone i) = refl
-errand_back (Sets v) = refl
-errand_back (Inserts v) = refl
-errand_back Awaits = refl
+errand_back _ = refl
 
 abbrev pub errand_code : Coded Errand
 errand_code = code_by (ℕ × (Initialiser × ℕ)) (coded× coded_ℕ (coded× init_code coded_ℕ)) errand_number errand_of_number errand_back

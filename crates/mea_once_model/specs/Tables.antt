@@ -142,14 +142,9 @@ at_round once x n others t s = record {
 abbrev pub finds : Table → ℕ → KeyStep
 finds t v = record { table = t; future = None; reply = answers.Value v; wakes = [] }
 
--- this is what becomes of a future
-abbrev pub turned_to : Names KeyFuture → ℕ → Option KeyFuture → Names KeyFuture
-turned_to fs f None = remove fs f
-turned_to fs f (Some y) = insert fs f y
-
 -- a step of the future f of this map or group
 abbrev pub applied : Tables → ℕ → ℕ → KeyStep → Outcome Tables
-applied h f o s = record { hall = record { tables = insert h.tables o s.table; futures = turned_to h.futures f s.future }; reply = s.reply; wakes = s.wakes }
+applied h f o s = record { hall = record { tables = insert h.tables o s.table; futures = cells.turned_to h.futures f s.future }; reply = s.reply; wakes = s.wakes }
 
 -- what the future f does with its round
 abbrev pub in_round : Bool → Tables → ℕ → KeyFuture → Table → (CellFuture → Cell → Step) → ℕ → Outcome Tables

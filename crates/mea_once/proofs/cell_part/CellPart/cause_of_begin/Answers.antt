@@ -1,7 +1,6 @@
 use Rattle.std.proofs.Common.{ap, sym, ◌∙◌, None, Some}
 use Rattle.std.specs.Option.{option_copied}
-use Rattle.mea_once.proofs.Causes.{if_borrowed}
-use Rattle.mea_once.proofs.PartEvents.{begin_cause}
+use Rattle.mea_once.proofs.PartEvents.{if_borrowed, begin_cause}
 use Rattle.mea_once.proofs.cell_part.CellPart.cause_of_begin.Goals as goal
 
 pub returns-in-Some : goal.returns-in-Some

@@ -1,22 +1,22 @@
 use Rattle.std.proofs.Common.{refl, sym, ◌∙◌}
 use Rattle.mea_family.proofs.Refusals.{as_told, borrowed_none}
-use Rattle.mea_once.proofs.PartEvents.{site, cell_there, its_room, goes_kept, dropped}
+use Rattle.mea_once.proofs.PartEvents.{object_there, its_room, site, dropped}
 use Rattle.mea_once.proofs.cell_part.CellPart.end_cell.Goals as goal
 
 pub returns-in-Some : goal.returns-in-Some
 returns-in-Some g c = (as_told _ _ _ _ c.cause_of_whole.ensures.is c.cause_of_whole.ensures.tells c.in-Some.is, refl, refl)
 
 pub remove-entry-requires : goal.remove-entry-requires
-remove-entry-requires g c = cell_there g.C.TurnCore.is_once (site g.C.TurnCore.is_once c.self.inside.cells c.self.inside.futures c.self.inside.next c.self.view_is c.self.invariant c.requires.next c.ranges.number.fits) c.args.o (borrowed_none _ _ (sym c.cause_of_whole.ensures.is ∙ c.in_default.is)).0
+remove-entry-requires g c = object_there (site g.C.TurnCore.is_once c.self.inside.cells c.self.inside.futures c.self.inside.next c.self.view_is c.self.invariant c.requires.next c.ranges.number.fits) c.args.o (borrowed_none _ _ (sym c.cause_of_whole.ensures.is ∙ c.in_default.is)).0
 
 pub keeps-kept-requires : goal.keeps-kept-requires
-keeps-kept-requires g c = its_room g.C.TurnCore.is_once (site g.C.TurnCore.is_once c.self.inside.cells c.self.inside.futures c.self.inside.next c.self.view_is c.self.invariant c.requires.next c.ranges.number.fits) c.args.o c.remove-entry.result c.remove-entry.ensures.value c.args.ready.now c.requires.room
+keeps-kept-requires g c = its_room (site g.C.TurnCore.is_once c.self.inside.cells c.self.inside.futures c.self.inside.next c.self.view_is c.self.invariant c.requires.next c.ranges.number.fits) c.args.o c.remove-entry.result c.remove-entry.ensures.value c.args.ready.now c.requires.room
 
 pub unregister-requires : goal.unregister-requires
-unregister-requires g c = rw c.keeps-kept.ensures (its_room g.C.TurnCore.is_once (site g.C.TurnCore.is_once c.self.inside.cells c.self.inside.futures c.self.inside.next c.self.view_is c.self.invariant c.requires.next c.ranges.number.fits) c.args.o c.remove-entry.result c.remove-entry.ensures.value c.args.ready.now c.requires.room)
+unregister-requires g c = rw c.keeps-kept.ensures (its_room (site g.C.TurnCore.is_once c.self.inside.cells c.self.inside.futures c.self.inside.next c.self.view_is c.self.invariant c.requires.next c.ranges.number.fits) c.args.o c.remove-entry.result c.remove-entry.ensures.value c.args.ready.now c.requires.room)
 
 pub invariant_of-self : goal.invariant_of-self
-invariant_of-self g c = rw c.remove-entry.ensures.rest (goes_kept g.C.TurnCore.is_once (site g.C.TurnCore.is_once c.self.inside.cells c.self.inside.futures c.self.inside.next c.self.view_is c.self.invariant c.requires.next c.ranges.number.fits) c.args.o c.remove-entry.result c.remove-entry.ensures.value (borrowed_none _ _ (sym c.cause_of_whole.ensures.is ∙ c.in_default.is)).1)
+invariant_of-self g c = rw c.remove-entry.ensures.rest (dropped g.C.TurnCore.is_once (site g.C.TurnCore.is_once c.self.inside.cells c.self.inside.futures c.self.inside.next c.self.view_is c.self.invariant c.requires.next c.ranges.number.fits) c.args.o c.remove-entry.result c.remove-entry.ensures.value (borrowed_none _ _ (sym c.cause_of_whole.ensures.is ∙ c.in_default.is)).1 c.args.ready.now (its_room (site g.C.TurnCore.is_once c.self.inside.cells c.self.inside.futures c.self.inside.next c.self.view_is c.self.invariant c.requires.next c.ranges.number.fits) c.args.o c.remove-entry.result c.remove-entry.ensures.value c.args.ready.now c.requires.room)).0
 
 pub returns : goal.returns
-returns g c = ((sym c.cause_of_whole.ensures.is ∙ c.in_default.is), rw (c.remove-entry.ensures.rest, c.unregister.ensures, c.keeps-kept.ensures) (dropped g.C.TurnCore.is_once (site g.C.TurnCore.is_once c.self.inside.cells c.self.inside.futures c.self.inside.next c.self.view_is c.self.invariant c.requires.next c.ranges.number.fits) c.args.o c.remove-entry.result c.remove-entry.ensures.value (borrowed_none _ _ (sym c.cause_of_whole.ensures.is ∙ c.in_default.is)).1 c.args.ready.now (its_room g.C.TurnCore.is_once (site g.C.TurnCore.is_once c.self.inside.cells c.self.inside.futures c.self.inside.next c.self.view_is c.self.invariant c.requires.next c.ranges.number.fits) c.args.o c.remove-entry.result c.remove-entry.ensures.value c.args.ready.now c.requires.room)))
+returns g c = ((sym c.cause_of_whole.ensures.is ∙ c.in_default.is), rw (c.remove-entry.ensures.rest, c.unregister.ensures, c.keeps-kept.ensures) (dropped g.C.TurnCore.is_once (site g.C.TurnCore.is_once c.self.inside.cells c.self.inside.futures c.self.inside.next c.self.view_is c.self.invariant c.requires.next c.ranges.number.fits) c.args.o c.remove-entry.result c.remove-entry.ensures.value (borrowed_none _ _ (sym c.cause_of_whole.ensures.is ∙ c.in_default.is)).1 c.args.ready.now (its_room (site g.C.TurnCore.is_once c.self.inside.cells c.self.inside.futures c.self.inside.next c.self.view_is c.self.invariant c.requires.next c.ranges.number.fits) c.args.o c.remove-entry.result c.remove-entry.ensures.value c.args.ready.now c.requires.room)).1)

@@ -1,14 +1,14 @@
 use Rattle.std.proofs.Common.{ap, sym, subst, ◌∙◌, None, Some, is_some}
 use Rattle.std.specs.Option.{option_copied}
 use Rattle.mea_once.specs.Lends.{StandsForTable}
-use Rattle.mea_once.proofs.TableEvents.{table_of, stands_for}
+use Rattle.mea_once.proofs.TableEvents.{table_form, object_of, stands_for}
 use Rattle.mea_once.proofs.key_part.KeyPart.core.Goals as goal
 
 pub returns-in_err-entry-clause-there : goal.returns-in_err-entry-clause-there
-returns-in_err-entry-clause-there g c = ap is_some c.from_residual.ensures ∙ table_of g.C.TableCore.is_once c.self.inside.tables c.self.inside.futures c.self.inside.next c.self.view_is c.args.o None (sym c.get.ensures ∙ ap option_copied c.in_err-entry.was)
+returns-in_err-entry-clause-there g c = ap is_some c.from_residual.ensures ∙ object_of (table_form g.C.TableCore.is_once) c.self.inside.tables c.self.inside.futures c.self.inside.next c.self.view_is c.args.o None (sym c.get.ensures ∙ ap option_copied c.in_err-entry.was)
 
 pub returns-clause-there : goal.returns-clause-there
-returns-clause-there g c = table_of g.C.TableCore.is_once c.self.inside.tables c.self.inside.futures c.self.inside.next c.self.view_is c.args.o (Some c.in_ok-entry.entry.now) (sym c.get.ensures ∙ ap option_copied c.in_ok-entry.was)
+returns-clause-there g c = object_of (table_form g.C.TableCore.is_once) c.self.inside.tables c.self.inside.futures c.self.inside.next c.self.view_is c.args.o (Some c.in_ok-entry.entry.now) (sym c.get.ensures ∙ ap option_copied c.in_ok-entry.was)
 
 pub returns-clause-stands : goal.returns-clause-stands
 returns-clause-stands g c = subst (StandsForTable c.args.self.now.hall c.args.o) (sym c.core.ensures) (stands_for g.C.TableCore.is_once c.self.inside.tables c.self.inside.futures c.self.inside.next c.self.view_is c.self.invariant c.args.o c.in_ok-entry.entry.now (sym c.get.ensures ∙ ap option_copied c.in_ok-entry.was))

@@ -4,7 +4,7 @@ use Rattle.mea_once_core.specs.Keyed.{MayEndKey, EndsAt}
 use Rattle.mea_once.specs.KeyEntries.{KeptTable, left_round, one_future_less}
 use Rattle.mea_once.proofs.KeyEvents.{its_there}
 use Rattle.mea_once.proofs.KeyPolls.{left_futures}
-use Rattle.mea_once.proofs.KeyEnds.{may_end_key, some_futures, room_for}
+use Rattle.mea_once.proofs.KeyCalls.{may_end_key, some_futures, room_for}
 use Rattle.mea_once.proofs.KeyAnswers.{ends_none, ends_so}
 use Rattle.mea_once.proofs.table_entry.TableEntry.end.Goals as goal
 

@@ -1,4 +1,4 @@
-use Rattle.std.proofs.Common.{ap, ◌∙◌, refl}
+use Rattle.std.proofs.Common.{ap, ◌∙◌}
 use Rattle.std.specs.FinMap.{insert}
 use Rattle.mea_once.specs.KeyEntries.{KeptTable, new_round}
 use Rattle.mea_once.proofs.table_entry.TableEntry.open.Goals as goal

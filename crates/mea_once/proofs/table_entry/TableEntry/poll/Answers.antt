@@ -10,9 +10,8 @@ use Rattle.mea_once.specs.KeyParts.{SteppedTable, table_seen, key_future_seen}
 use Rattle.mea_once_model.specs.Tables as tables
 use Rattle.mea_family.specs.declared.answer.Answer.TheVariants.{Pending}
 use Rattle.mea_once.proofs.KeyEvents.{its_round, its_there}
-use Rattle.mea_once.proofs.KeyOthers.{rewakes_so}
-use Rattle.mea_once.proofs.KeyEnds.{enter_few, may_poll_key, some_futures}
-use Rattle.mea_once.proofs.KeyWays.{one_back, polls_any, own_runs, idle_where, entered_so, undone}
+use Rattle.mea_once.proofs.KeyCalls.{rewakes_so, enter_few, may_poll_key, some_futures}
+use Rattle.mea_once.proofs.KeyAnswers.{one_back, polls_any, own_runs, idle_where, entered_so, undone}
 use Rattle.mea_once.proofs.table_entry.TableEntry.poll.Goals as goal
 
 pub returns-in-Some-clause-steps : goal.returns-in-Some-clause-steps

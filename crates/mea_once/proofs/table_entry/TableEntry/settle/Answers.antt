@@ -6,8 +6,7 @@ use Rattle.mea_once.specs.Entries.{runs}
 use Rattle.mea_once.specs.KeyEntries.{with_running}
 use Rattle.mea_once.specs.KeyParts.{SteppedTable, table_seen, key_future_seen}
 use Rattle.mea_once.proofs.KeyEvents.{its_round, its_there}
-use Rattle.mea_once.proofs.KeyEnds.{room_for}
-use Rattle.mea_once.proofs.KeyOthers.{settled_future}
+use Rattle.mea_once.proofs.KeyCalls.{settled_future, room_for}
 use Rattle.mea_once.proofs.KeyDiscards.{some_runs, settles_none}
 use Rattle.mea_once.proofs.KeyAnswers.{settles_quiet, settles_waking}
 use Rattle.mea_once.proofs.table_entry.TableEntry.settle.Goals as goal
