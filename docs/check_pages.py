@@ -9,7 +9,9 @@ It tells of each page
   * of a table with the columns `clause` and `crate`: a clause that does not stand on its call in that crate,
     where a cell reads "`clause`, `clause` of `call`; `call`". A call with no clause before it is to be there;
   * a crate that is not there, but on the page of changes, and a test that a crate of tests does not have, where a
-    page reads "`mea_x_tests` `module`, `module::test`". A name with three underscores and more is to stand in some crate.
+    page reads "`mea_x_tests` `module`, `module::test`". A name with three underscores and more is to stand in some crate;
+  * a file that a crate does not have, where a page reads "mea_run `src/machine.rt`", "mea_sem_model `specs/Step`" or
+    "`machine.rt` of `mea_run`", and a word that does not stand in it, where it reads "`poured` in mea_sem_core `specs/Core`".
 
 It ends with 1 where it has told of something.
 """
@@ -29,6 +31,8 @@ CLAUSE = re.compile(r"\s*ensures (\w+)\b")
 SAID_NOTHING = re.compile(r"\s*ensures \{")
 CRATE = re.compile(r"`(mea_[a-z]{2}\w*|mea)`")
 TESTS = re.compile(r"`(mea_(?:\w+_)?tests|mea_rows)`((?:,? `(?!mea_)[\w:]+`)+)")
+FILE = re.compile(r"(?:`(\w+)` in )?`?(mea_[a-z]{2}\w*)`?\s`((?:src|specs|proofs)/[\w/]+(?:\.rt)?)`")
+FILE_OF = re.compile(r"`([\w/]+\.rt)` of `(mea_[a-z]{2}\w*)`")
 LONG_NAME = re.compile(r"`((?!mea_)[a-z]\w*(?:_\w+){3,})`")
 
 
@@ -202,8 +206,31 @@ def name_faults(line, said, tells_changes):
             yield f"no crate has {name}"
 
 
+def files_of(crate, name):
+    """The files of a crate that a page means by a path or by a name alone. A folder stands for all that is in it."""
+    folder = TOP / "crates" / crate
+    found = [folder / name, folder / f"{name}.rt", folder / f"{name}.antt"] if "/" in name else folder.glob(f"src/**/{name}")
+    there = [path for path in found if path.exists()]
+    return [one for path in there for one in (path.rglob("*.*") if path.is_dir() else [path])]
+
+
+def file_faults(text):
+    """The files that a page names and a crate lacks, and the words that do not stand in them. `x` in a name stands for many."""
+    said = [(found.start(), found[2], found[3], found[1]) for found in FILE.finditer(text)]
+    said += [(found.start(), found[2], found[1], None) for found in FILE_OF.finditer(text)]
+    for at, crate, name, word in said:
+        if re.search(r"/(x_|X[A-Z])", name) or not (TOP / "crates" / crate).is_dir():
+            continue
+        number, files = text.count("\n", 0, at) + 1, files_of(crate, name)
+        if not files:
+            yield number, f"{crate} has no {name}"
+        elif word and not any(re.search(rf"\b{word}\b", file.read_text()) for file in files):
+            yield number, f"{word} does not stand in {crate} {name}"
+
+
 def faults(path, known, said):
     text = path.read_text()
+    yield from file_faults(text)
     for number, block in blocks(text):
         for sentence in sentences(block):
             if words(sentence) > MOST_WORDS:

@@ -2,6 +2,8 @@
 """Writes the quotes of crates/mea/CALLING.md and crates/mea_futures/CALLING.md: the public calls of each type, with
 their contracts and what their doc comments say, as they stand in the sources. All from the line '## Contracts' on is
 written anew. With --check nothing is written, and the status is 1 where a page differs from the sources.
+
+    tools/calling.py CRATE ..      prints the same of any crate, as of a core or a hall, and writes nothing
 """
 import os
 import re
@@ -242,8 +244,21 @@ def page(crate):
     return "\n".join(out) + "\n"
 
 
+def of_crate(crate):
+    """The public calls of a crate, as lines."""
+    return module(os.path.join(TOP, crate, "src"), "lib.rt", ["."]) + shared(crate, "lib.rt")
+
+
 def main():
     status = 0
+    crates = [word for word in sys.argv[1:] if not word.startswith("-")]
+    for crate in crates:
+        if not os.path.isfile(os.path.join(TOP, crate, "src", "lib.rt")):
+            print(f"calling.py: there is no crate {crate} with calls", file=sys.stderr)
+            return 1
+        print("\n".join([f"# {crate}"] + of_crate(crate)))
+    if crates:
+        return 0
     for crate in PAGES:
         path = os.path.join(TOP, crate, "CALLING.md")
         now = read(path)
