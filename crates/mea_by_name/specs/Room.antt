@@ -6,7 +6,7 @@ use Rattle.std.specs.HashMap.{HashMap, spare}
 use Rattle.mea_by_name.specs.ByName.{Names, names_code, kept}
 use Rattle.mea_by_name.specs.Beside.{beside}
 
--- things by name, and how many more can be put there with no memory taken
+-- things by name, and for how many more there is room at the least
 pub record Room (X : Type 0) : Type 0 where
   pub things : Names X
   pub spare : ℕ

@@ -13,8 +13,8 @@ use std::marker::Model;
 
 /// Things by name, with room for more of them that was made before it is known whether they come.
 ///
-/// One thing stands beside a hashed map, so that where there is one at a time no call looks into the map. Each call for
-/// another thing costs a look-up there, and so does what puts a thing beside a map that is not empty.
+/// One thing stands beside a hashed map, and a call for it does not look into the map. Each call for another name costs a
+/// look-up there, and so does what puts a thing beside a map that is not empty. The room is that of the map.
 pub struct Roomy<X> {
     // The thing beside the map, and the name that it has.
     name: u64,

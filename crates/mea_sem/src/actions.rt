@@ -9,7 +9,7 @@ pub enum Action {
     ForgetExact(u64),
     /// Adds so many permits.
     Release(u64),
-    /// Takes so many permits away where they are free: nothing is left of a permit that could borrow the semaphore.
+    /// Takes so many permits away where it is open and they are free: nothing is left of a permit that could borrow the semaphore.
     TryAndForget(u64),
     /// Ends its name.
     EndName,

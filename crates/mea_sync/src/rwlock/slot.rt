@@ -1,5 +1,5 @@
-//! Where the value of a reader-writer lock rests: nobody has read since the last write, or each guard of a read has a share,
-//! or neither, while the guard of a write has it.
+//! Where the value of a reader-writer lock rests: whole, where no read was tried or polled since the last write; else in shares,
+//! of which each guard of a read has one; or away, while the guard of a write has it.
 ghost use Rattle.std.specs.Prelude.{◌≡◌, Some, None, IfSome, IfNone, IfOk, IsSome, OnErr, OnSome};
 ghost use Rattle.std.specs.Arc.{arc_value};
 ghost use Rattle.mea_sync.specs.Slot.{value_in};
