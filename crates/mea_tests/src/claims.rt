@@ -1,10 +1,10 @@
 //! Polls of waits for a claim, which hand out what they came to.
 //!
 //! The tests hand such waits to functions that are generic in them: there a wait is one bound, where the proof builds the whole of a
-//! type that is known at each call.
+//! type that is known at each call. So a wait with an initialiser is put together here, of parts that are bounds.
 ghost use Rattle.std.specs.Prelude.{IfSome};
 
-use mea_keep::{Claim, Claimed};
+use mea_keep::{Claim, Claimed, Claiming, Computing, Init, Never, Unfailing};
 use mea_test_support::{Bell, Count, PollOutcome, gives, poll};
 use mea_wait::{End, Waits};
 use std::sync::Wait;
@@ -73,4 +73,35 @@ pub(crate) fn gave<R: Wait, T: Drop, V, C: Claim<T, V, G>, G: End>(
             None
         }
     }
+}
+
+/// What a wait with an initialiser gives, if it does; one that goes on is ended.
+pub(crate) fn value_of<
+    R: Wait,
+    F: Claiming<Bell, V, C>,
+    C: Claim<T, V, G>,
+    G: Claiming<Bell, V, Never>,
+    I: Init<T, Never, Bell> + Drop,
+    T,
+    V,
+>(rt: &R, wait: Unfailing<Computing<F, C, G, I, T, Never>>, count: &Count) -> Option<V>
+    requires { (init : I) → I.may_poll init }
+{
+    gives(rt, Some(wait), count)
+}
+
+/// The same of one whose initialiser may have an error.
+pub(crate) fn answer_of<
+    R: Wait,
+    F: Claiming<Bell, V, C>,
+    C: Claim<T, V, G>,
+    G: Claiming<Bell, V, Never>,
+    I: Init<T, E, Bell> + Drop,
+    T,
+    E,
+    V,
+>(rt: &R, wait: Computing<F, C, G, I, T, E>, count: &Count) -> Option<Result<V, E>>
+    requires { (init : I) → I.may_poll init }
+{
+    gives(rt, Some(wait), count)
 }

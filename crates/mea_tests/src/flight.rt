@@ -1,9 +1,8 @@
 use crate::group::Flights;
 use crate::guards::bell;
 use mea_base::Poll;
-use mea_keep::{Init, Never};
+use mea_keep::{Claim, Claiming, Computing, Init, Never, Unfailing};
 use mea_test_support::{Bell, Count, PollOutcome, poll, polled_for};
-use mea_wait::Waits;
 use std::alloc::{AllocError, Global};
 use std::sync::Wait;
 use std::sync::atomic::AtomicU64;
@@ -49,13 +48,19 @@ fn works<R: Wait>(
 }
 
 // What a wait gives whose first poll counts it among those that wait.
-fn waits<R: Wait, F: Waits<Bell, u64>>(
+fn waits<
+    R: Wait,
+    F: Claiming<Bell, u64, C>,
+    C: Claim<u64, u64, G>,
+    G: Claiming<Bell, u64, Never>,
+    I: Init<u64, Never, Bell> + Drop,
+>(
     rt: &R,
-    wait: F,
+    wait: Unfailing<Computing<F, C, G, I, u64, Never>>,
     waiting: &AtomicU64,
     bell: &Count,
 ) -> Option<u64>
-    requires { F.can_poll wait }
+    requires { (init : I) → I.may_poll init }
 {
     let told = poll(rt, wait, bell);
     waiting.fetch_add(1, SeqCst);

@@ -1,10 +1,10 @@
-use crate::claims::{gave, mine, queues, there};
+use crate::claims::{answer_of, gave, mine, queues, there, value_of};
 use crate::guards::bell;
 use crate::inits::{Fails, Gives};
 use mea_base::Poll;
 use mea_keep::once::OnceMap;
 use mea_keep::{Claim, Claimed, Init, Never};
-use mea_test_support::{Bell, Count, found, gives, rung};
+use mea_test_support::{Bell, Count, found, rung};
 use mea_wait::{End, Waits};
 use std::hash::{BuildHasher, BuildHasherDefault, FoldHasher};
 use std::process::Abort;
@@ -21,9 +21,19 @@ fn computed<R: Wait, S: BuildHasher + Drop, I: Init<u64, Never, Bell> + Drop>(
     init: I,
     bell: &Count,
 ) -> Option<u64>
-    requires { I.may_poll init }
+    requires { (init : I) → I.may_poll init }
 {
-    gives(rt, Some(map.compute(key, init)), bell)
+    value_of(rt, map.compute(key, init), bell)
+}
+
+// The error of an initialiser under a key.
+fn failed<R: Wait, S: BuildHasher + Drop>(
+    rt: &R,
+    map: &Map<S>,
+    key: u64,
+    bell: &Count,
+) -> Option<Result<u64, u8>> {
+    answer_of(rt, map.try_compute(key, Fails), bell)
 }
 
 fn get<R: Wait, S: BuildHasher + Drop>(rt: &R, map: &Map<S>, key: u64) -> Option<u64> {
@@ -55,7 +65,7 @@ fn computes<R: Wait + Abort, S: BuildHasher + Drop>(
     is_kept(rt, map);
     assert!(rt; computed(rt, map, 2, Asks { rt, map, bell: one }, one) == Some(8));
     assert!(rt; get(rt, map, 1) == Some(7));
-    assert!(rt; gives(rt, Some(map.try_compute(3, Fails)), one) == Some(Err(4)));
+    assert!(rt; failed(rt, map, 3, one) == Some(Err(4)));
 }
 
 fn is_computed_once<
