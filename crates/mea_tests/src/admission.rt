@@ -1,4 +1,4 @@
-use crate::guards::bell;
+use crate::counts::bell;
 use mea::End;
 use mea::admission::{FairShare, OwnedShareWait};
 use mea_test_support::{Bell, Count, end, found, gives, pends, rung};

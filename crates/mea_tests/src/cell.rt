@@ -1,5 +1,5 @@
 use crate::claims::{gave, mine, queues, there};
-use crate::guards::bell;
+use crate::counts::bell;
 use crate::inits::{Fails, Gives};
 use mea_keep::once::OnceCell;
 use mea_keep::{Claim, Claimed, TryAtOnce};

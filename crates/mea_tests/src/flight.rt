@@ -1,5 +1,5 @@
+use crate::counts::bell;
 use crate::group::Flights;
-use crate::guards::bell;
 use mea_base::Poll;
 use mea_keep::{Claim, Claiming, Computing, Init, Never, Unfailing};
 use mea_test_support::{Bell, Count, PollOutcome, poll, polled_for};

@@ -1,5 +1,5 @@
 use crate::claims::{answer_of, mine, value_of};
-use crate::guards::bell;
+use crate::counts::bell;
 use crate::inits::{Fails, Gives};
 use mea_keep::Claimed;
 use mea_keep::singleflight::Group;

@@ -1,5 +1,5 @@
 use crate::claims::{answer_of, gave, mine, queues, there, value_of};
-use crate::guards::bell;
+use crate::counts::bell;
 use crate::inits::{Fails, Gives};
 use mea_base::Poll;
 use mea_keep::once::OnceMap;

@@ -1,5 +1,5 @@
 use crate::claims::{gave, mine, queues, there};
-use crate::guards::bell;
+use crate::counts::bell;
 use mea_keep::once::Once;
 use mea_keep::{Claim, Claimed};
 use mea_test_support::{Bell, Count, end, gives, goes_on, rung};

@@ -11,7 +11,7 @@ use std::sync::Wait;
 struct Inside;
 
 impl<T> Part<Option<T>> for Inside {
-    ghost use Rattle.mea_tests.specs.Inside.{same_option};
+    ghost use Rattle.mea_sync_tests.specs.Inside.{same_option};
 
     type Out = T;
 

@@ -1,4 +1,4 @@
-use crate::guards::bell;
+use crate::counts::bell;
 use mea_link::barrier::{Barrier, BarrierWait};
 use mea_link::shutdown::{ShutdownRecv, ShutdownSend, new_pair};
 use mea_test_support::{Bell, Count, end, gives, goes_on, rung};

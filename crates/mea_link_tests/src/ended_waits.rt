@@ -1,4 +1,4 @@
-use crate::guards::bell;
+use crate::counts::bell;
 use crate::meeting_points::has_a_leader;
 use mea_base::Poll;
 use mea_link::barrier::Barrier;

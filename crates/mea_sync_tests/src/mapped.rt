@@ -17,7 +17,7 @@ type Pair = (u64, u64);
 struct First;
 
 impl Part<Pair> for First {
-    ghost use Rattle.mea_tests.specs.First.{same_value};
+    ghost use Rattle.mea_sync_tests.specs.First.{same_value};
 
     type Out = u64;
 

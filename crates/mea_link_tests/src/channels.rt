@@ -1,4 +1,4 @@
-use crate::guards::bell;
+use crate::counts::bell;
 use mea_link::broadcast::overflow::{self, RecvError};
 use mea_link::mpsc::{
     BoundedReceiver, BoundedSender, RecvError as Ended, SendError, TryRecvError, TrySendError,
