@@ -31,10 +31,22 @@ fn a_box_may_be_empty(rt: HostRuntime) {
 fn may_be_empty(rt: &(impl Abort + AllocGlobal), mut cell: OptionBoxCore<u64>) {
     assert!(rt; matches!(cell.take(), Some(content) if *content == 1));
     assert!(rt; cell.swap(Some(boxed(rt, 2))).is_none());
-    assert!(rt; matches!(cell.get_mut(), Some(content) if *content == 2));
-    assert!(rt; cell.take().is_some());
+    assert!(rt; written(&mut cell) == Some(2));
+    assert!(rt; matches!(cell.take(), Some(content) if *content == 6));
     cell.store(None);
     assert!(rt; cell.into_inner().is_none());
+}
+
+// What is in the box, which another value is written over.
+fn written(cell: &mut OptionBoxCore<u64>) -> Option<u64> {
+    match cell.get_mut() {
+        Some(content) => {
+            let before = *content;
+            *content = 6;
+            Some(before)
+        }
+        None => None,
+    }
 }
 
 fn takes_another(rt: &(impl Abort + AllocGlobal), mut none: OptionBoxCore<u64>) {

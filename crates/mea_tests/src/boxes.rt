@@ -34,7 +34,8 @@ fn content(there: Option<Box<u64>>) -> Option<u64> {
 fn a_box_may_be_empty(rt: HostRuntime) {
     let mut shared = AtomicOptionBox::none();
     is_swapped(&rt, &shared);
-    assert!(rt; seen(&mut shared) == Some(2));
+    assert!(rt; written(&mut shared) == Some(2));
+    assert!(rt; content(shared.take(&rt)) == Some(6));
     shared.store(&rt, None);
     assert!(rt; content(shared.into_inner()).is_none());
     let full = AtomicOptionBox::new(Some(boxed(&rt, 3)));
@@ -49,10 +50,14 @@ fn is_swapped<R: Wait + Abort + AllocGlobal>(rt: &R, shared: &AtomicOptionBox<u6
     assert!(rt; content(other).is_none());
 }
 
-// What who has the whole box finds in it.
-fn seen(shared: &mut AtomicOptionBox<u64>) -> Option<u64> {
+// What who has the whole box finds in it, and writes another value over.
+fn written(shared: &mut AtomicOptionBox<u64>) -> Option<u64> {
     match shared.get_mut() {
-        Some(content) => Some(*content),
+        Some(content) => {
+            let before = *content;
+            *content = 6;
+            Some(before)
+        }
         None => None,
     }
 }
