@@ -151,8 +151,11 @@ fn are_forgotten<R: Wait + Abort>(rt: &R, semaphore: &Semaphore<Bell>) {
     assert!(rt; semaphore.forget_exact(rt, 2) == Ok(()));
     assert!(rt; semaphore.release(rt, 3) == Ok(()));
     assert!(rt; has_free(rt, semaphore, 2));
-    assert!(rt; semaphore.release(rt, usize::MAX) == Err(Overflow));
+    assert!(rt; semaphore.release(rt, usize::MAX - 1) == Err(Overflow));
     assert!(rt; has_free(rt, semaphore, 2));
+    // What was forgotten lives no more, so the greatest number is reached.
+    assert!(rt; semaphore.release(rt, usize::MAX - 2) == Ok(()));
+    assert!(rt; has_free(rt, semaphore, usize::MAX));
 }
 
 // The forms that own a share of the semaphore, and those that forget.
@@ -191,6 +194,8 @@ fn forgetting<R: Wait + Abort>(rt: &R, semaphore: &Arc<Semaphore<Bell>>, bell: &
     assert!(rt; !forgets(rt, semaphore.acquire_and_forget(2), bell));
     assert!(rt; has_free(rt, semaphore, 1));
     assert!(rt; rung(bell) == 0);
+    assert!(rt; semaphore.release(rt, usize::MAX) == Err(Overflow));
+    assert!(rt; semaphore.release(rt, usize::MAX - 1) == Ok(()));
 }
 
 // Owned permits are split and merged.
