@@ -1,5 +1,6 @@
 ghost use Rattle.std.specs.Prelude.{◌≡◌, Some, None, IsSome, IfOk, IfErr, MatchResult};
 ghost use Rattle.std.specs.Borrow.{Lends, sem};
+ghost use Rattle.mea_lock_core.specs.Then.{then_get};
 
 use crate::access::{Access, Downgrades, Shows};
 use mea_base::NoMemory;
@@ -98,8 +99,10 @@ impl<T, G: Shows<T>, P: Part<T>> Mapped<T, G, P> {
         part: Q,
     ) -> Result<Mapped<T, G, Then<P, Q>>, (Self, Q)>
         ensures { MatchResult result
-            (λ mapped. (mapped.at.guard ≡ orig.at.guard) × (mapped.at.part ≡ record { first = orig.at.part; second = part }))
-            (λ back. (back.0.at.guard ≡ orig.at.guard) × (back.0.at.part ≡ orig.at.part) × (back.1 ≡ part)) }
+            (λ mapped. IsSome (then_get (P.get orig.at.part (G.shown orig.at.guard)) (λ u. Q.get part u))
+            × (mapped.at.guard ≡ orig.at.guard) × (mapped.at.part ≡ record { first = orig.at.part; second = part }))
+            (λ back. (then_get (P.get orig.at.part (G.shown orig.at.guard)) (λ u. Q.get part u) ≡ None)
+            × (back.0.at.guard ≡ orig.at.guard) × (back.0.at.part ≡ orig.at.part) × (back.1 ≡ part)) }
     {
         let (guard, first) = orig.into_parts();
         let both = Then {

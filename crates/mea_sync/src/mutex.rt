@@ -58,7 +58,7 @@ impl<T: Drop, W: Wake> Mutex<T, W> {
         Locking::of(self)
     }
 
-    /// The guard, if nobody holds the lock. It takes no memory.
+    /// The guard, if the lock is free: nobody holds it, and it is granted to nobody who waits. It takes no memory.
     pub fn try_lock<R: Wait>(&self, rt: &R) -> Option<MutexGuard<'_, T, W>> {
         let taken = self.core.lock(rt).try_lock();
         match taken {

@@ -97,7 +97,7 @@ impl<T: Drop, W: Wake> RwLock<T, W> {
         }
     }
 
-    /// The guard of a write, if nobody holds the lock. It takes no memory.
+    /// The guard of a write, if the lock is free: nobody holds it, and it is granted to nobody who waits. It takes no memory.
     pub fn try_write<R: Wait>(&self, rt: &R) -> Option<RwLockWriteGuard<'_, T, W>> {
         match self.take(rt) {
             Some(value) => Some(WriteGuard::of(self, value)),

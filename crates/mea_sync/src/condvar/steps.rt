@@ -1,6 +1,6 @@
 //! The steps of a condition variable's core that are made under its lock, and those that are made under the
 //! lock of the mutex too, which is taken first. Each tells how many wakers it made ready.
-ghost use Rattle.std.specs.Prelude.{◌≡◌, ◌≤◌, ◌-◌, if◌then◌else◌, length, true, false, Some, None, is_some, IsSome, IfOk, IfErr, IfSome, OnOk, OnErr};
+ghost use Rattle.std.specs.Prelude.{◌≡◌, ◌≤◌, ◌-◌, if◌then◌else◌, length, true, false, Some, None, is_some, IsSome, IfOk, IfErr, IfSome, MatchOption, OnOk, OnErr};
 ghost use Rattle.std.specs.Option.{option_or};
 ghost use Rattle.mea_sem_core.specs.Core.{held_of};
 ghost use Rattle.mea_lock_core.specs.Condvar.{notified_one, notified_all};
@@ -59,6 +59,7 @@ pub(super) fn poll<T: Drop, W: Drop>(
     ensures guards { is_new wait.new ≡ true → IsSome guarded.new }
     ensures waker { IfErr result.answer (λ e. e.0 ≡ waker) }
     ensures ready { IfOk result.answer (λ taken. IfSome taken (λ _. state.new.value ≡ None)) }
+    ensures value { IfOk result.answer (λ taken. MatchOption taken (state.new.value ≡ option_or guarded.old state.old.value) (λ given. Some given.0 ≡ option_or guarded.old state.old.value)) }
     ensures made { result.made ≡ length state.new.lock.permits.wakes - length state.old.lock.permits.wakes }
 {
     let before = state.lock.wakes_ready();
