@@ -20,12 +20,12 @@ use Rattle.mea_task_core.proofs.Moves.{sound_moves}
 use Rattle.mea_task_run.specs.declared.event.TaskEvent.{TaskEvent}
 use Rattle.mea_task_run.specs.declared.event.TaskEvent.TheVariants.{Sem, Task, Step}
 use Rattle.mea_task_run.specs.Lines.{event_of}
-use Rattle.mea_task_run.specs.Machine.{Program, new_program, takes, event_in, after, with_latest, whole, size_of, AreKnown, StandsAt, task_rules, tasks_of}
+use Rattle.mea_task_run.specs.Machine.{Program, new_program, admits, event_in, after, with_latest, whole, size_of, AreKnown, StandsAt, task_rules, tasks_of}
 use Rattle.mea_task_run.specs.Rests.{TellsRest}
 use Rattle.mea_task_run.specs.Spelling.{Fits}
 use Rattle.mea_task_run.proofs.Known.{none_unknown}
 use Rattle.mea_task_run.proofs.Spellings.{spelling_only}
-use Rattle.mea_task_run.proofs.Standing.{event_takes, stands_after}
+use Rattle.mea_task_run.proofs.Standing.{event_admitted, stands_after}
 
 -- ---- a program stays sound
 sound_latest : (m : Machine) (latest : Option (List TaskStep)) → IsSound m → AreKnown (length m.semaphores) latest → m.added + size_of latest ≤ 2 ^ 60 → IsSound (with_latest m latest)
@@ -39,7 +39,7 @@ sound_after p n (Step step) s stands few fits = s
 
 -- ---- the events of lines
 fits_only : (p : Program) (line : List ℕ) (e : TaskEvent) → event_in p line ≡ Some e → Fits e
-fits_only p line e is = option_and_then_some (λ k. if takes p k then Some k else None) (event_of line) e is (λ k read made. by_test k (takes p k) read made)
+fits_only p line e is = option_and_then_some (λ k. if admits p k then Some k else None) (event_of line) e is (λ k read made. by_test k (admits p k) read made)
   where
     by_test : (k : TaskEvent) (b : Bool) → event_of line ≡ Some k → (if b then Some k else None) ≡ Some e → Fits e
     by_test k true read made = subst Fits (some_same k e made) (spelling_only line k read).1
@@ -78,7 +78,7 @@ rests_from (line ∷ lines) long p n s stands few done =
     by_event (event_at task_rules p line) refl done (λ e event ended.
     let long_by_one : length (line ∷ lines) ≡ length lines + 1 = omega arith in
     rests_from lines long (after p e) (n + 1) (sound_after p n e s stands (omega (arith, few)) (fits_only p line e event))
-    (stands_after p n e stands (event_takes p e (line, event))) (omega (arith, few, long_by_one)) ended)
+    (stands_after p n e stands (event_admitted p e (line, event))) (omega (arith, few, long_by_one)) ended)
   where
     by_event : (o : Option TaskEvent) → event_at task_rules p line ≡ o → (told_line task_rules p n o (λ a. told_from task_rules long a (n + 1) lines)).status ≡ Done
         → ((e : TaskEvent) → event_in p line ≡ Some e → (told_from task_rules long (after p e) (n + 1) lines).status ≡ Done → TellsRest (told_from task_rules long (after p e) (n + 1) lines))

@@ -9,16 +9,16 @@ use Rattle.mea_task_core.specs.Machine.{Machine}
 use Rattle.mea_task_run.specs.declared.event.TaskEvent.{TaskEvent}
 use Rattle.mea_task_run.specs.declared.event.TaskEvent.TheVariants.{Sem, Task, Step}
 use Rattle.mea_task_run.specs.Lines.{event_of}
-use Rattle.mea_task_run.specs.Machine.{Program, takes, after, with_latest, with_step, size_of, AreKnown, StandsAt, task_rules}
+use Rattle.mea_task_run.specs.Machine.{Program, admits, after, with_latest, with_step, size_of, AreKnown, StandsAt, task_rules}
 use Rattle.mea_task_run.proofs.Known.{latest_more, latest_push}
 
 -- ---- an event is one here
-pub event_takes : (p : Program) (e : TaskEvent) → IsEvent task_rules p e → takes p e ≡ true
+pub event_admitted : (p : Program) (e : TaskEvent) → IsEvent task_rules p e → admits p e ≡ true
 unfolding task_rules
-event_takes p e found = option_and_then_some (λ k. if takes p k then Some k else None) (event_of found.0) e found.1 (λ k read made. by_test k (takes p k) refl made)
+event_admitted p e found = option_and_then_some (λ k. if admits p k then Some k else None) (event_of found.0) e found.1 (λ k read made. by_test k (admits p k) refl made)
   where
-    by_test : (k : TaskEvent) (b : Bool) → takes p k ≡ b → (if b then Some k else None) ≡ Some e → takes p e ≡ true
-    by_test k true is made = subst (λ x. takes p x ≡ true) (some_same k e made) is
+    by_test : (k : TaskEvent) (b : Bool) → admits p k ≡ b → (if b then Some k else None) ≡ Some e → admits p e ≡ true
+    by_test k true is made = subst (λ x. admits p x ≡ true) (some_same k e made) is
     by_test k false is made = absurd (cc)
 
 -- ---- after a line
@@ -43,7 +43,7 @@ pub semaphores_latest : (m : Machine) (latest : Option (List TaskStep)) → (wit
 semaphores_latest m None = refl
 semaphores_latest m (Some steps) = refl
 
-pub stands_after : (p : Program) (n : ℕ) (e : TaskEvent) → StandsAt p n → takes p e ≡ true → StandsAt (after p e) (n + 1)
+pub stands_after : (p : Program) (n : ℕ) (e : TaskEvent) → StandsAt p n → admits p e ≡ true → StandsAt (after p e) (n + 1)
 stands_after p n (Sem permits) s is =
     let more : length (p.machine.semaphores ++ p.machine.events ∷ []) ≡ length p.machine.semaphores + 1 = length-append p.machine.semaphores (p.machine.events ∷ []) in
     record {

@@ -45,14 +45,14 @@ program_of p = record { machine = p.executor; latest = steps_in p.latest }
 -- ---- events
 
 -- a step is an event where a task was begun, and where the semaphore that it means was made before
-abbrev pub takes : Program → TaskEvent → Bool
-takes p (Sem n) = true
-takes p Task = true
-takes p (Step s) = is_some p.latest && is_known (length p.machine.semaphores) s
+abbrev pub admits : Program → TaskEvent → Bool
+admits p (Sem n) = true
+admits p Task = true
+admits p (Step s) = is_some p.latest && is_known (length p.machine.semaphores) s
 
 -- the event of a line for a program
 abbrev pub event_in : Program → List ℕ → Option TaskEvent
-event_in p line = event_of line >>= (λ e. if takes p e then Some e else None)
+event_in p line = event_of line >>= (λ e. if admits p e then Some e else None)
 
 -- the steps of the latest task with one more
 abbrev pub with_step : Option (List TaskStep) → TaskStep → Option (List TaskStep)

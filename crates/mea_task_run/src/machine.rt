@@ -1,7 +1,7 @@
 ghost use Rattle.std.specs.Prelude.{◌≡◌, ◌+◌, ◌<◌, ◌≤◌, ◌^◌, None, length, OnOk};
 ghost use Rattle.mea_task_core.specs.Adding.{with_semaphore};
 ghost use Rattle.mea_task_core.specs.Machine.{new_machine};
-ghost use Rattle.mea_task_run.specs.Machine.{AreKnown, size_of, steps_in, program_of, takes, with_latest, with_step};
+ghost use Rattle.mea_task_run.specs.Machine.{AreKnown, size_of, steps_in, program_of, admits, with_latest, with_step};
 
 use crate::event::TaskEvent;
 use crate::lines::event_of_line;
@@ -35,8 +35,8 @@ impl TaskMachine {
     }
 
     // Whether an event is one here: a step needs a task, and the semaphore that it means.
-    fn takes(&self, event: &TaskEvent) -> bool
-        ensures { result ≡ takes (program_of self.now) event.now }
+    fn admits(&self, event: &TaskEvent) -> bool
+        ensures { result ≡ admits (program_of self.now) event.now }
     {
         match event {
             TaskEvent::Sem(_) | TaskEvent::Task => true,
@@ -63,7 +63,7 @@ impl Machine for TaskMachine {
 
     fn event_of_line(&self, line: &[u8]) -> Option<TaskEvent> {
         let event = event_of_line(line)?;
-        if self.takes(&event) {
+        if self.admits(&event) {
             Some(event)
         } else {
             None
