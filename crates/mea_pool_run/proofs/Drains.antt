@@ -18,14 +18,14 @@ use Rattle.mea_pool_core.specs.Pool.{Pool, is_drained}
 use Rattle.mea_pool_run.specs.declared.reply.PoolReply.TheVariants.{Told}
 use Rattle.mea_pool_run.specs.declared.thing.Thing.{Thing}
 use Rattle.mea_pool_run.specs.declared.thing.Thing.TheVariants.{Wait}
-use Rattle.mea_pool_run.specs.Hall.{Hall, Outcome, quietly, polled_drain, poll_of, end_of}
-use Rattle.mea_pool_run.specs.Kept.{Numbered, names_of, live_of, hall_of, asked, awaited, held, IsGoing, AsksStand, LeasesStand, WaitsStand, Keeps, Stands, Goes, wakers_of}
+use Rattle.mea_pool_run.specs.PoolByName.{PoolByName, Outcome, quietly, polled_drain, poll_of, end_of}
+use Rattle.mea_pool_run.specs.Kept.{Numbered, names_of, live_of, pool_by_name, asked, awaited, held, IsGoing, AsksStand, LeasesStand, WaitsStand, Keeps, Stands, Goes, wakers_of}
 use Rattle.mea_pool_run.proofs.Linking.{At, put, absent_left, left_named, registered_last, registered_again}
-use Rattle.mea_pool_run.proofs.Polls.{hall_path}
+use Rattle.mea_pool_run.proofs.Polls.{pool_path}
 use Rattle.mea_pool_run.proofs.Standing.{ready, lists_last, rewaked_lists, leaves_list}
 use Rattle.mea_pool_run.proofs.Things.{put_back, at_alike, at_inserted, at_removed, at_without, going_put, going_gone}
 
--- the waits that a hall keeps are those of the pool
+-- the waits that are known by name are those of the pool
 pub may_poll_drain : (p : Pool ℕ NamedWaker) (things : Names Thing) (f : ℕ) (c : DrainWait) → Keeps p things → get things f ≡ Some (Wait c) → MayPollDrain p c
 may_poll_drain p things f drain.New keeps is = tt
 may_poll_drain p things f (drain.Listed m) keeps is = elim (keeps.ending.linked.home f m (ap awaited is)) [ inl some ↦ inl some | inr told ↦ inr told.1 ]
@@ -37,8 +37,8 @@ may_end_drain p things f (drain.Listed m) keeps is = may_poll_drain p things f (
 may_end_drain p things f drain.Done keeps is = tt
 
 module _ (p : Pool ℕ NamedWaker) (things : Names Thing) (stands : Stands p things) where
-  abbrev s : Hall
-  s = hall_of p things
+  abbrev s : PoolByName
+  s = pool_by_name p things
 
   abbrev wait_at : At
   wait_at = λ q. awaited (get things q)
@@ -65,7 +65,7 @@ module _ (p : Pool ℕ NamedWaker) (things : Names Thing) (stands : Stands p thi
   goes_away : (f : ℕ) (c : DrainWait) (told : FinMap nat_cmp Bool) → get things f ≡ Some (Wait c) → WaitsStand (put wait_at f None) p.drains told (is_drained p)
       → Goes (quietly (record s { things = remove s.things f }) (Told answers.Ready)) (record p { told = told }) (remove things f) (Told answers.Ready)
   goes_away f c told is ending = record {
-    hall = hall_path _ _ refl refl refl (seen-remove (live_of p.granted) things f) refl refl refl;
+    pool = pool_path _ _ refl refl refl (seen-remove (live_of p.granted) things f) refl refl refl;
     replied = refl;
     woken = silent;
     keeps = keeps_waits (remove things f) p.drains told (going_gone things f stands.keeps.going)
@@ -96,7 +96,7 @@ module _ (p : Pool ℕ NamedWaker) (things : Names Thing) (stands : Stands p thi
       → WaitsStand (put wait_at f (Some m)) lists p.told (is_drained p)
       → Goes (polled_drain false s f w) (record p { drains = lists }) (insert things f (Wait (drain.Listed m))) (Told answers.Pending)
   stays f w c m lists is named ending = record {
-    hall = hall_path _ _ refl refl refl (seen-alike (live_of p.granted) things f (Wait c) (Wait (drain.Listed m)) is refl) refl refl named;
+    pool = pool_path _ _ refl refl refl (seen-alike (live_of p.granted) things f (Wait c) (Wait (drain.Listed m)) is refl) refl refl named;
     replied = refl;
     woken = silent;
     keeps = keeps_waits (insert things f (Wait (drain.Listed m))) lists p.told (going_put things f (Wait (drain.Listed m)) stands.keeps.going tt)
@@ -149,7 +149,7 @@ module _ (p : Pool ℕ NamedWaker) (things : Names Thing) (stands : Stands p thi
   just_ends f c lists told p' is whole named ending =
       subst (λ (o : Outcome). Goes o p' (remove things f) (Told answers.Done)) (sym (end_is f c is))
       (subst (λ (q : Pool ℕ NamedWaker). Goes (quietly (record s { things = remove s.things f; drains = without s.drains f }) (Told answers.Done)) q (remove things f) (Told answers.Done)) (sym whole) (record {
-        hall = hall_path _ _ refl refl refl (seen-remove (live_of p.granted) things f) refl refl named;
+        pool = pool_path _ _ refl refl refl (seen-remove (live_of p.granted) things f) refl refl named;
         replied = refl;
         woken = silent;
         keeps = keeps_waits (remove things f) lists told (going_gone things f stands.keeps.going)

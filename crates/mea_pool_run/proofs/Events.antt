@@ -6,8 +6,8 @@ use Rattle.mea_by_name.specs.ByName.{Names}
 use Rattle.mea_pool_core.specs.Pool.{Pool}
 use Rattle.mea_pool_run.specs.declared.reply.PoolReply.{PoolReply}
 use Rattle.mea_pool_run.specs.declared.thing.Thing.{Thing}
-use Rattle.mea_pool_run.specs.Hall.{Outcome}
-use Rattle.mea_pool_run.specs.Kept.{hall_of, wakers_of, Stands, AreBelow, Goes}
+use Rattle.mea_pool_run.specs.PoolByName.{Outcome}
+use Rattle.mea_pool_run.specs.Kept.{pool_by_name, wakers_of, Stands, AreBelow, Goes}
 use Rattle.mea_pool_run.specs.Reply.{text_of}
 
 -- it holds whatever the result is
@@ -16,8 +16,8 @@ whatever (Ok x) p = p
 whatever (Err e) p = tt
 
 module _ (o : Outcome) (p p' : Pool ℕ NamedWaker) (things things' : Names Thing) (reply : PoolReply) (goes : Goes o p things reply) (same : things' ≡ things) (taken : p' ≡ record p { wakes = [] }) where
-  pub next_hall : hall_of p' things' ≡ o.hall
-  next_hall = (λ i. hall_of (taken i) (same i)) ∙ goes.hall
+  pub next_pool : pool_by_name p' things' ≡ o.pool
+  next_pool = (λ i. pool_by_name (taken i) (same i)) ∙ goes.pool
 
   pub next_stands : Stands p' things'
   next_stands =

@@ -7,7 +7,7 @@ use Rattle.mea_base.proofs.Maps.{by_put, by_gone, get-there}
 use Rattle.mea_by_name.specs.ByName.{Names}
 use Rattle.mea_pool_core.specs.Shelf.{is_lent, lent_count, StandOnce, slots_of, slots_below, none_lent, with_slots}
 use Rattle.mea_pool_core.proofs.Shelves.{first_free, once_lent, count_lent, lent_within, once_back, count_back, length_below, length_none, count_none, unmarked, once_fresh, slots_zip, length_zip}
-use Rattle.mea_pool_run.specs.Hall.{Live, asks, awaits, leases}
+use Rattle.mea_pool_run.specs.PoolByName.{Live, asks, awaits, leases}
 
 -- a lease of this slot stands there
 abbrev pub HasIn : Option Live → ℕ → Type 0

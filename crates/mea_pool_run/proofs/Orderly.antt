@@ -12,7 +12,7 @@ use Rattle.mea_pool_core.specs.Shelf.{is_lent, lent_count, times, one_if, slots_
 use Rattle.mea_script.proofs.Events.{of_script}
 use Rattle.mea_pool_run.specs.declared.event.PoolEvent.{PoolEvent}
 use Rattle.mea_pool_run.specs.declared.event.PoolEvent.TheVariants.{Ask, Wait, Poll, Use, Back, End, Drain, Idle}
-use Rattle.mea_pool_run.specs.Hall.{Live, asks, awaits, leases, Hall, begun, is_drained, settled_at, passed_for, drained_at, lent, gets_or_waits, polled_at, polled, polled_drain, ended, poll_of, end_of, use_of, back_of, outcome}
+use Rattle.mea_pool_run.specs.PoolByName.{Live, asks, awaits, leases, PoolByName, begun, is_drained, settled_at, passed_for, drained_at, lent, gets_or_waits, polled_at, polled, polled_drain, ended, poll_of, end_of, use_of, back_of, outcome}
 use Rattle.mea_pool_run.specs.Orderly.{Leases, IsOnce, AreOnce, names, IsPart, IsInOrder, IsOrderly, AreOrderly}
 use Rattle.mea_pool_run.specs.Script.{pool_rules}
 use Rattle.mea_pool_run.proofs.Lending.{IsNoLease, none_no_lease, ask_no_lease, wait_no_lease, Lends, lends_put, lends_gone, lends_set, lends_got, lends_back, lends_none}
@@ -35,9 +35,9 @@ taken_put things k x o is = ap (λ (p : Option Live). taken_in (insert things k 
 taken_gone : (things : Names Live) (k : ℕ) (o : Option Live) → get things k ≡ o → taken_in (remove things k) + weight takes k o ≡ taken_in things
 taken_gone things k o is = ap (λ (p : Option Live). taken_in (remove things k) + weight takes k p) (sym is) ∙ total-remove takes things k
 
--- ---- what holds of a hall before line n
+-- ---- what holds of a pool before line n
 
-record Keeps (s : Hall) (n : ℕ) : Type 0 where
+record Keeps (s : PoolByName) (n : ℕ) : Type 0 where
   lends : Lends s.size s.shelf s.things
   taken : s.taken ≡ taken_in s.things
   line : Line s.waiting s.things
@@ -47,7 +47,7 @@ record Keeps (s : Hall) (n : ℕ) : Type 0 where
   below : (k : ℕ) → n ≤ k → get s.things k ≡ None
 
 -- what the event of line n leaves
-record Step (s : Hall) (n : ℕ) (e : PoolEvent) (s' : Hall) : Type 0 where
+record Step (s : PoolByName) (n : ℕ) (e : PoolEvent) (s' : PoolByName) : Type 0 where
   keeps : Keeps s' (n + 1)
   size : s'.size ≡ s.size
   order : IsInOrder s n e s'
@@ -90,7 +90,7 @@ ungranted_moved things f n x other g = by_put (remove things f) n x (λ q o. get
 
 -- ---- the order, where nobody is granted a place and no lease is made
 
-quiet_order : (s : Hall) (n : ℕ) (e : PoolEvent) (s' : Hall) → Ungranted s.things s'.things → IsNoLease (get s'.things n) → (new : List ℕ) × (length new ≤ 1) × IsPart (names s'.waiting) (names s.waiting ++ new) → IsInOrder s n e s'
+quiet_order : (s : PoolByName) (n : ℕ) (e : PoolEvent) (s' : PoolByName) → Ungranted s.things s'.things → IsNoLease (get s'.things n) → (new : List ℕ) × (length new ≤ 1) × IsPart (names s'.waiting) (names s.waiting ++ new) → IsInOrder s n e s'
 quiet_order s n e s' none fresh line = record {
   first = λ f no yes. absurd (none f no yes);
   nobody = λ f w slot is no lent. absurd (fresh slot lent);
@@ -101,7 +101,7 @@ fresh_in : (things : Names Live) (n : ℕ) → get things n ≡ None → IsNoLea
 fresh_in things n none slot h = none_no_lease slot (h.0, sym none ∙ h.1)
 
 -- nothing changes
-unchanged : (s : Hall) (n : ℕ) (e : PoolEvent) → Keeps s n → Step s n e s
+unchanged : (s : PoolByName) (n : ℕ) (e : PoolEvent) → Keeps s n → Step s n e s
 unchanged s n e kept = record {
   keeps = record { lends = kept.lends; taken = kept.taken; line = kept.line; full = kept.full; closed = kept.closed; told = kept.told; below = below_next s.things n kept.below };
   size = refl;
@@ -111,7 +111,7 @@ unchanged s n e kept = record {
 
 -- ---- a wait is made
 
-makes : (s : Hall) (n : ℕ) (e : PoolEvent) (x : Live) → IsNoLease (Some x) → takes n x ≡ 0 → (Some x ≡ Some (asks true) → ⊥) → Keeps s n → Step s n e (record s { things = insert s.things n x })
+makes : (s : PoolByName) (n : ℕ) (e : PoolEvent) (x : Live) → IsNoLease (Some x) → takes n x ≡ 0 → (Some x ≡ Some (asks true) → ⊥) → Keeps s n → Step s n e (record s { things = insert s.things n x })
 makes s n e x unlent light other kept =
     let fresh : get s.things n ≡ None = kept.below n (omega arith) in
     let weighs : taken_in (insert s.things n x) + 0 ≡ taken_in s.things + takes n x = taken_put s.things n x None fresh in
@@ -133,7 +133,7 @@ makes s n e x unlent light other kept =
 
 -- ---- a wait that takes no place goes, and with it its place in the line or its waker
 
-goes_free : (s : Hall) (n f : ℕ) (e : PoolEvent) (x : Live) (waiting drains : Waiting) → get s.things f ≡ Some x → IsNoLease (Some x) → takes f x ≡ 0 → Keeps s n → Line waiting (remove s.things f)
+goes_free : (s : PoolByName) (n f : ℕ) (e : PoolEvent) (x : Live) (waiting drains : Waiting) → get s.things f ≡ Some x → IsNoLease (Some x) → takes f x ≡ 0 → Keeps s n → Line waiting (remove s.things f)
     → ((waiting ≡ [] → ⊥) → s.waiting ≡ [] → ⊥) → (s.waiting ≡ [] → waiting ≡ []) → (is_drained s ≡ true → drains ≡ []) → (new : List ℕ) × (length new ≤ 1) × IsPart (names waiting) (names s.waiting ++ new)
     → Step s n e (record s { things = remove s.things f; waiting = waiting; drains = drains })
 goes_free s n f e x waiting drains here unlent light kept line some none told order =
@@ -157,7 +157,7 @@ goes_free s n f e x waiting drains here unlent light kept line some none told or
 -- ---- a place that becomes free
 
 -- the thing of which it was has gone, and with it its place
-record Left (s t : Hall) (n : ℕ) : Type 0 where
+record Left (s t : PoolByName) (n : ℕ) : Type 0 where
   lends : Lends t.size t.shelf t.things
   taken : t.taken ≡ taken_in t.things + 1
   line : Line t.waiting t.things
@@ -170,8 +170,8 @@ record Left (s t : Hall) (n : ℕ) : Type 0 where
   ungranted : Ungranted s.things t.things
 
 -- who waits for the end hears of it, once the pool is drained
-settles : (s : Hall) (n : ℕ) (e : PoolEvent) (t : Hall) (ws : List ℕ) (b : Bool) → is_drained t ≡ b → Lends t.size t.shelf t.things → t.taken ≡ taken_in t.things → Line t.waiting t.things → ((t.waiting ≡ [] → ⊥) → t.size ≤ t.taken)
-    → (t.draining ≡ true → t.waiting ≡ []) → ((k : ℕ) → n ≤ k → get t.things k ≡ None) → t.size ≡ s.size → IsInOrder s n e t → (is_drained s ≡ true → is_drained t ≡ true) → Step s n e (settled_at b t ws).hall
+settles : (s : PoolByName) (n : ℕ) (e : PoolEvent) (t : PoolByName) (ws : List ℕ) (b : Bool) → is_drained t ≡ b → Lends t.size t.shelf t.things → t.taken ≡ taken_in t.things → Line t.waiting t.things → ((t.waiting ≡ [] → ⊥) → t.size ≤ t.taken)
+    → (t.draining ≡ true → t.waiting ≡ []) → ((k : ℕ) → n ≤ k → get t.things k ≡ None) → t.size ≡ s.size → IsInOrder s n e t → (is_drained s ≡ true → is_drained t ≡ true) → Step s n e (settled_at b t ws).pool
 settles s n e t ws true is lends taken line full closed below size order stays = record {
   keeps = record { lends = lends; taken = taken; line = line; full = full; closed = closed; told = λ _. refl; below = below_next t.things n below };
   size = size;
@@ -185,10 +185,10 @@ settles s n e t ws false is lends taken line full closed below size order stays 
   stays = stays;
 }
 
-drained_parts : (s : Hall) → is_drained s ≡ true → (s.draining ≡ true) × (s.taken ≡ 0)
+drained_parts : (s : PoolByName) → is_drained s ≡ true → (s.draining ≡ true) × (s.taken ≡ 0)
 drained_parts s is = let parts = and_parts s.draining (s.taken == 0) is in (parts.0, eqb-true s.taken 0 parts.1)
 
-passes : (s : Hall) (n : ℕ) (e : PoolEvent) (t : Hall) (q : Waiting) → t.waiting ≡ q → (1 ≤ s.taken) → Left s t n → Step s n e (passed_for q t).hall
+passes : (s : PoolByName) (n : ℕ) (e : PoolEvent) (t : PoolByName) (q : Waiting) → t.waiting ≡ q → (1 ≤ s.taken) → Left s t n → Step s n e (passed_for q t).pool
 passes s n e t [] none some left =
     let fewer : t.taken ≡ taken_in t.things + 1 = left.taken in
     settles s n e (record t { taken = t.taken - 1 }) [] (is_drained (record t { taken = t.taken - 1 })) refl left.lends (omega arith) left.line (λ waits. absurd (waits none)) left.closed left.below left.size
@@ -200,7 +200,7 @@ passes s n e t (first ∷ rest) is some left =
     let weighs : taken_in (insert t.things first.0 (asks true)) + 0 ≡ taken_in t.things + 1 = taken_put t.things first.0 (asks true) (Some (asks false)) here in
     let fewer : t.taken ≡ taken_in t.things + 1 = left.taken in
     let low = there_below t.things n first.0 (asks false) left.below here in
-    let after : Hall = record t { waiting = rest; things = insert t.things first.0 (asks true) } in
+    let after : PoolByName = record t { waiting = rest; things = insert t.things first.0 (asks true) } in
     settles s n e after (first.1 ∷ []) (is_drained after) refl
     (lends_put t.size t.shelf t.things first.0 (asks true) (λ slot h. ask_no_lease false slot (h.0, sym here ∙ h.1)) (ask_no_lease true) left.lends)
     (omega arith) (line_rest first rest t.things line) (λ _. left.full (λ none. let no : first ∷ rest ≡ [] = sym is ∙ none in absurd (cc)))
@@ -214,7 +214,7 @@ passes s n e t (first ∷ rest) is some left =
     (λ is. absurd (let parts = drained_parts s is in let zero : s.taken ≡ 0 = parts.1 in omega arith))
 
 -- what takes a place goes
-goes_taken : (s : Hall) (n f : ℕ) (x : Live) (shelf : List (ℕ × ℕ)) → get s.things f ≡ Some x → takes f x ≡ 1 → (Some x ≡ Some (asks false) → ⊥) → Keeps s n → Lends s.size shelf (remove s.things f) → (1 ≤ s.taken) × Left s (record s { shelf = shelf; things = remove s.things f }) n
+goes_taken : (s : PoolByName) (n f : ℕ) (x : Live) (shelf : List (ℕ × ℕ)) → get s.things f ≡ Some x → takes f x ≡ 1 → (Some x ≡ Some (asks false) → ⊥) → Keeps s n → Lends s.size shelf (remove s.things f) → (1 ≤ s.taken) × Left s (record s { shelf = shelf; things = remove s.things f }) n
 goes_taken s n f x shelf here heavy other kept lends =
     let weighs : taken_in (remove s.things f) + takes f x ≡ taken_in s.things = taken_gone s.things f (Some x) here in
     let was : s.taken ≡ taken_in s.things = kept.taken in (
@@ -235,7 +235,7 @@ goes_taken s n f x shelf here heavy other kept lends =
 
 -- ---- a lease is got
 
-gets_one : (s : Hall) (n f w taken : ℕ) (b : Bool) (q : List (ℕ × ℕ)) → s.shelf ≡ q → get s.things f ≡ Some (asks b) → taken + takes f (asks b) ≡ s.taken + 1 → (b ≡ false → s.waiting ≡ []) → (is_drained s ≡ true → taken ≡ s.taken) → Keeps s n → Step s n (Poll f w) (lent q s n f taken).hall
+gets_one : (s : PoolByName) (n f w taken : ℕ) (b : Bool) (q : List (ℕ × ℕ)) → s.shelf ≡ q → get s.things f ≡ Some (asks b) → taken + takes f (asks b) ≡ s.taken + 1 → (b ≡ false → s.waiting ≡ []) → (is_drained s ≡ true → taken ≡ s.taken) → Keeps s n → Step s n (Poll f w) (lent q s n f taken).pool
 gets_one s n f w taken b [] shelf here more nobody same kept = unchanged s n (Poll f w) kept
 gets_one s n f w taken b (l ∷ rest) shelf here more nobody same kept =
     let gone : taken_in (remove s.things f) + takes f (asks b) ≡ taken_in s.things = taken_gone s.things f (Some (asks b)) here in
@@ -289,7 +289,7 @@ gets_one s n f w taken b (l ∷ rest) shelf here more nobody same kept =
 
 -- ---- a wait for a lease is polled
 
-waits_on : (s : Hall) (n f w : ℕ) → get s.things f ≡ Some (asks false) → s.draining ≡ false → s.size ≤ s.taken → Keeps s n → Step s n (Poll f w) (record s { waiting = registering s.waiting f w })
+waits_on : (s : PoolByName) (n f w : ℕ) → get s.things f ≡ Some (asks false) → s.draining ≡ false → s.size ≤ s.taken → Keeps s n → Step s n (Poll f w) (record s { waiting = registering s.waiting f w })
 waits_on s n f w here opens full kept = record {
   keeps = record {
     lends = kept.lends;
@@ -306,37 +306,37 @@ waits_on s n f w here opens full kept = record {
 }
 
 -- nobody waits where a place is free
-nobody_waits : (s : Hall) (n : ℕ) (q : Waiting) → s.waiting ≡ q → s.taken < s.size → Keeps s n → q ≡ []
+nobody_waits : (s : PoolByName) (n : ℕ) (q : Waiting) → s.waiting ≡ q → s.taken < s.size → Keeps s n → q ≡ []
 nobody_waits s n [] is room kept = refl
 nobody_waits s n (e ∷ q) is room kept = absurd (let full : s.size ≤ s.taken = kept.full (λ none. let no : e ∷ q ≡ [] = sym is ∙ none in absurd (cc)) in omega arith)
 
-waits_full : (s : Hall) (n f : ℕ) (q : Waiting) → s.waiting ≡ q → waits q f ≡ true → Keeps s n → s.size ≤ s.taken
+waits_full : (s : PoolByName) (n f : ℕ) (q : Waiting) → s.waiting ≡ q → waits q f ≡ true → Keeps s n → s.size ≤ s.taken
 waits_full s n f [] is some kept = absurd (cc)
 waits_full s n f (e ∷ q) is some kept = kept.full (λ none. let no : e ∷ q ≡ [] = sym is ∙ none in absurd (cc))
 
-gets_or : (s : Hall) (n f w : ℕ) (c d : Bool) → waits s.waiting f ≡ c → nat_lt s.taken s.size ≡ d → get s.things f ≡ Some (asks false) → s.draining ≡ false → Keeps s n → Step s n (Poll f w) (gets_or_waits (not c && d) s n f w).hall
+gets_or : (s : PoolByName) (n f w : ℕ) (c d : Bool) → waits s.waiting f ≡ c → nat_lt s.taken s.size ≡ d → get s.things f ≡ Some (asks false) → s.draining ≡ false → Keeps s n → Step s n (Poll f w) (gets_or_waits (not c && d) s n f w).pool
 gets_or s n f w true d there room here opens kept = waits_on s n f w here opens (waits_full s n f s.waiting refl there kept) kept
 gets_or s n f w false true there room here opens kept =
     gets_one s n f w (s.taken + 1) false s.shelf refl here (omega arith) (λ _. nobody_waits s n s.waiting refl (ltb-true s.taken s.size room) kept)
     (λ is. absurd (let both : true ≡ false = sym (drained_parts s is).0 ∙ opens in cc)) kept
 gets_or s n f w false false there room here opens kept = waits_on s n f w here opens (ltb-false s.taken s.size room) kept
 
-polls_at : (s : Hall) (n f w : ℕ) (b : Bool) → s.draining ≡ b → get s.things f ≡ Some (asks false) → Keeps s n → Step s n (Poll f w) (polled_at b s n f w).hall
+polls_at : (s : PoolByName) (n f w : ℕ) (b : Bool) → s.draining ≡ b → get s.things f ≡ Some (asks false) → Keeps s n → Step s n (Poll f w) (polled_at b s n f w).pool
 polls_at s n f w true closed here kept =
     goes_free s n f (Poll f w) (asks false) s.waiting s.drains here (ask_no_lease false) refl kept
     (line_gone s.waiting s.things f (ap (λ (q : Waiting). waker_for q f) (kept.closed closed)) kept.line) (λ waits. waits) (λ none. none) kept.told (order_same s.waiting)
 polls_at s n f w false opens here kept = gets_or s n f w (waits s.waiting f) (nat_lt s.taken s.size) refl refl here opens kept
 
-polls : (s : Hall) (n f w : ℕ) (b : Bool) → get s.things f ≡ Some (asks b) → Keeps s n → Step s n (Poll f w) (polled b s n f w).hall
+polls : (s : PoolByName) (n f w : ℕ) (b : Bool) → get s.things f ≡ Some (asks b) → Keeps s n → Step s n (Poll f w) (polled b s n f w).pool
 polls s n f w true here kept = gets_one s n f w s.taken true s.shelf refl here refl (λ no. absurd (cc)) (λ _. refl) kept
 polls s n f w false here kept = polls_at s n f w s.draining refl here kept
 
 -- ---- a wait for the end
 
-not_asking : (s : Hall) (n f : ℕ) (x : Live) → get s.things f ≡ Some x → (Some x ≡ Some (asks false) → ⊥) → Keeps s n → Line s.waiting (remove s.things f)
+not_asking : (s : PoolByName) (n f : ℕ) (x : Live) → get s.things f ≡ Some x → (Some x ≡ Some (asks false) → ⊥) → Keeps s n → Line s.waiting (remove s.things f)
 not_asking s n f x here other kept = line_gone s.waiting s.things f (elsewhere s.waiting s.things f kept.line (λ is. other (sym here ∙ is))) kept.line
 
-polls_end : (s : Hall) (n f w : ℕ) (b : Bool) → is_drained s ≡ b → get s.things f ≡ Some awaits → Keeps s n → Step s n (Poll f w) (polled_drain b s f w).hall
+polls_end : (s : PoolByName) (n f w : ℕ) (b : Bool) → is_drained s ≡ b → get s.things f ≡ Some awaits → Keeps s n → Step s n (Poll f w) (polled_drain b s f w).pool
 polls_end s n f w true is here kept =
     goes_free s n f (Poll f w) awaits s.waiting s.drains here wait_no_lease refl kept (not_asking s n f awaits here (λ no. absurd (cc)) kept) (λ waits. waits) (λ none. none) kept.told (order_same s.waiting)
 polls_end s n f w false is here kept = record {
@@ -359,7 +359,7 @@ polls_end s n f w false is here kept = record {
 no_more : (q : Waiting) (f : ℕ) → q ≡ [] → without q f ≡ []
 no_more q f none = ap (λ (x : Waiting). without x f) none
 
-ends : (s : Hall) (n f : ℕ) (b : Bool) → get s.things f ≡ Some (asks b) → Keeps s n → Step s n (End f) (ended b s f).hall
+ends : (s : PoolByName) (n f : ℕ) (b : Bool) → get s.things f ≡ Some (asks b) → Keeps s n → Step s n (End f) (ended b s f).pool
 ends s n f true here kept =
     let left = goes_taken s n f (asks true) s.shelf here refl (λ no. absurd (cc)) kept (lends_gone s.size s.shelf s.things f (λ slot h. ask_no_lease true slot (h.0, sym here ∙ h.1)) kept.lends) in
     passes s n (End f) (record s { things = remove s.things f }) s.waiting refl left.0 left.1
@@ -369,30 +369,30 @@ ends s n f false here kept =
 
 -- ---- a drain
 
-drains_at : (s : Hall) (n : ℕ) (b : Bool) → s.draining ≡ b → Keeps s n → Step s n Drain (drained_at b s).hall
+drains_at : (s : PoolByName) (n : ℕ) (b : Bool) → s.draining ≡ b → Keeps s n → Step s n Drain (drained_at b s).pool
 drains_at s n true is kept = unchanged s n Drain kept
 drains_at s n false is kept =
-    let after : Hall = record s { waiting = []; draining = true } in
+    let after : PoolByName = record s { waiting = []; draining = true } in
     settles s n Drain after (wakers s.waiting) (is_drained after) refl kept.lends kept.taken (line_none s.things) (λ no. absurd (no refl)) (λ _. refl) kept.below refl
     (quiet_order s n Drain after (ungranted_same s.things) (fresh_in s.things n (kept.below n (omega arith))) (order_none s.waiting))
     (λ now. absurd (let both : true ≡ false = sym (drained_parts s now).0 ∙ is in cc))
 
 -- ---- by what lives under a name
 
-poll_steps : (s : Hall) (n f w : ℕ) (o : Option Live) → get s.things f ≡ o → Keeps s n → Step s n (Poll f w) (poll_of o s n f w).hall
+poll_steps : (s : PoolByName) (n f w : ℕ) (o : Option Live) → get s.things f ≡ o → Keeps s n → Step s n (Poll f w) (poll_of o s n f w).pool
 poll_steps s n f w None here kept = unchanged s n (Poll f w) kept
 poll_steps s n f w (Some (asks granted)) here kept = polls s n f w granted here kept
 poll_steps s n f w (Some awaits) here kept = polls_end s n f w (is_drained s) refl here kept
 poll_steps s n f w (Some (leases slot value)) here kept = unchanged s n (Poll f w) kept
 
-end_steps : (s : Hall) (n f : ℕ) (o : Option Live) → get s.things f ≡ o → Keeps s n → Step s n (End f) (end_of o s f).hall
+end_steps : (s : PoolByName) (n f : ℕ) (o : Option Live) → get s.things f ≡ o → Keeps s n → Step s n (End f) (end_of o s f).pool
 end_steps s n f None here kept = unchanged s n (End f) kept
 end_steps s n f (Some (asks granted)) here kept = ends s n f granted here kept
 end_steps s n f (Some awaits) here kept =
     goes_free s n f (End f) awaits s.waiting (without s.drains f) here wait_no_lease refl kept (not_asking s n f awaits here (λ no. absurd (cc)) kept) (λ waits. waits) (λ none. none) (λ now. no_more s.drains f (kept.told now)) (order_same s.waiting)
 end_steps s n f (Some (leases slot value)) here kept = unchanged s n (End f) kept
 
-use_steps : (s : Hall) (n l v : ℕ) (o : Option Live) → get s.things l ≡ o → Keeps s n → Step s n (Use l v) (use_of o s l v).hall
+use_steps : (s : PoolByName) (n l v : ℕ) (o : Option Live) → get s.things l ≡ o → Keeps s n → Step s n (Use l v) (use_of o s l v).pool
 use_steps s n l v None here kept = unchanged s n (Use l v) kept
 use_steps s n l v (Some (asks granted)) here kept = unchanged s n (Use l v) kept
 use_steps s n l v (Some awaits) here kept = unchanged s n (Use l v) kept
@@ -415,7 +415,7 @@ use_steps s n l v (Some (leases slot value)) here kept =
       stays = λ is. is;
     }
 
-back_steps : (s : Hall) (n l : ℕ) (o : Option Live) → get s.things l ≡ o → Keeps s n → Step s n (Back l) (back_of o s l).hall
+back_steps : (s : PoolByName) (n l : ℕ) (o : Option Live) → get s.things l ≡ o → Keeps s n → Step s n (Back l) (back_of o s l).pool
 back_steps s n l None here kept = unchanged s n (Back l) kept
 back_steps s n l (Some (asks granted)) here kept = unchanged s n (Back l) kept
 back_steps s n l (Some awaits) here kept = unchanged s n (Back l) kept
@@ -423,7 +423,7 @@ back_steps s n l (Some (leases slot value)) here kept =
     let left = goes_taken s n l (leases slot value) (s.shelf ++ (slot, value) ∷ []) here refl (λ no. absurd (cc)) kept (lends_back s.size s.shelf s.things l slot value here kept.lends) in
     passes s n (Back l) (record s { shelf = s.shelf ++ (slot, value) ∷ []; things = remove s.things l }) s.waiting refl left.0 left.1
 
-steps : (s : Hall) (n : ℕ) (e : PoolEvent) → Keeps s n → Step s n e (outcome s n e).hall
+steps : (s : PoolByName) (n : ℕ) (e : PoolEvent) → Keeps s n → Step s n e (outcome s n e).pool
 unfolding outcome
 steps s n Ask kept = makes s n Ask (asks false) (ask_no_lease false) refl (λ no. absurd (cc)) kept
 steps s n Wait kept = makes s n Wait awaits wait_no_lease refl (λ no. absurd (cc)) kept
@@ -436,7 +436,7 @@ steps s n Idle kept = unchanged s n Idle kept
 
 -- ---- what each state shows
 
-module _ (s : Hall) (n : ℕ) (kept : Keeps s n) where
+module _ (s : PoolByName) (n : ℕ) (kept : Keeps s n) where
   sum_of : (slot : ℕ) → times slot (slots_of s.shelf) + one_if (is_lent kept.lends.lent slot) ≡ one_if (nat_lt slot (length kept.lends.lent))
   sum_of slot = kept.lends.once slot
 
@@ -479,7 +479,7 @@ module _ (s : Hall) (n : ℕ) (kept : Keeps s n) where
   }
 
 -- no lease lives where no place is taken
-unlent : (s : Hall) (n : ℕ) → Keeps s n → s.taken ≡ 0 → (slot f : ℕ) → Leases s slot f → ⊥
+unlent : (s : PoolByName) (n : ℕ) → Keeps s n → s.taken ≡ 0 → (slot f : ℕ) → Leases s slot f → ⊥
 unlent s n kept none slot f h =
     let weighs : taken_in (remove s.things f) + 1 ≡ taken_in s.things = taken_gone s.things f (Some (leases slot h.0)) h.1 in
     let was : s.taken ≡ taken_in s.things = kept.taken in
@@ -493,7 +493,7 @@ none_count (b ∷ marks) none = first b (none 0) (none_count marks (λ slot. non
     first true is rest = absurd (cc)
     first false is rest = rest
 
-all_idle : (s : Hall) (n : ℕ) → Keeps s n → s.taken ≡ 0 → length s.shelf ≡ s.size
+all_idle : (s : PoolByName) (n : ℕ) → Keeps s n → s.taken ≡ 0 → length s.shelf ≡ s.size
 all_idle s n kept none =
     let lends = kept.lends in
     let counted : length s.shelf + lent_count lends.lent ≡ length lends.lent = lends.counted in
@@ -505,17 +505,17 @@ all_idle s n kept none =
     by_flag slot (inl is) = let home = kept.lends.home slot is in absurd (unlent s n kept none slot home.0 home.1)
     by_flag slot (inr is) = is
 
-orderly : (s : Hall) (n : ℕ) (e : PoolEvent) → Keeps s n → IsOrderly s n e (outcome s n e).hall
+orderly : (s : PoolByName) (n : ℕ) (e : PoolEvent) → Keeps s n → IsOrderly s n e (outcome s n e).pool
 orderly s n e kept =
     let step = steps s n e kept in
     record {
       size = step.size;
-      once = stand_once (outcome s n e).hall (n + 1) step.keeps;
+      once = stand_once (outcome s n e).pool (n + 1) step.keeps;
       order = step.order;
       drained = record {
         stays = step.stays;
-        idle = λ now. all_idle (outcome s n e).hall (n + 1) step.keeps (drained_parts (outcome s n e).hall now).1;
-        unlent = λ now slot f h. unlent (outcome s n e).hall (n + 1) step.keeps (drained_parts (outcome s n e).hall now).1 slot f h;
+        idle = λ now. all_idle (outcome s n e).pool (n + 1) step.keeps (drained_parts (outcome s n e).pool now).1;
+        unlent = λ now slot f h. unlent (outcome s n e).pool (n + 1) step.keeps (drained_parts (outcome s n e).pool now).1 slot f h;
         told = step.keeps.told;
       };
     }

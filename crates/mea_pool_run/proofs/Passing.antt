@@ -23,10 +23,10 @@ use Rattle.mea_pool_core.proofs.Shelves.{count_back}
 use Rattle.mea_pool_run.specs.declared.reply.PoolReply.TheVariants.{Told}
 use Rattle.mea_pool_run.specs.declared.thing.Thing.{Thing}
 use Rattle.mea_pool_run.specs.declared.thing.Thing.TheVariants.{Ask, Held}
-use Rattle.mea_pool_run.specs.Hall.{asks, Hall, Outcome, quietly, settled_at, settled, passed_for, drained_at, drained, ended, end_of, back_of}
-use Rattle.mea_pool_run.specs.Kept.{Numbered, names_of, is_granted, live_of, hall_of, asked, awaited, held, IsGoing, AsksStand, LeasesStand, WaitsStand, Stands, Goes, wakers_of}
+use Rattle.mea_pool_run.specs.PoolByName.{asks, PoolByName, Outcome, quietly, settled_at, settled, passed_for, drained_at, drained, ended, end_of, back_of}
+use Rattle.mea_pool_run.specs.Kept.{Numbered, names_of, is_granted, live_of, pool_by_name, asked, awaited, held, IsGoing, AsksStand, LeasesStand, WaitsStand, Stands, Goes, wakers_of}
 use Rattle.mea_pool_run.proofs.Linking.{At, put, left_named, absent_left}
-use Rattle.mea_pool_run.proofs.Polls.{hall_path, keeps_asks}
+use Rattle.mea_pool_run.proofs.Polls.{pool_path, keeps_asks}
 use Rattle.mea_pool_run.proofs.Standing.{took, refused, leaves, all_leave, first_granted, all_hear, comes_back}
 use Rattle.mea_pool_run.proofs.Things.{put_back, at_each, at_removed, at_without, going_gone, seen_took, seen_granted}
 
@@ -53,9 +53,9 @@ abbrev heard : Pool ℕ NamedWaker → Pool ℕ NamedWaker
 heard q = record q { drains = []; told = notifying q.told q.drains; wakes = q.wakes ++ map_list {A = ℕ × NamedWaker} (λ e. e.1) q.drains }
 
 settles_at : (b : Bool) (q : Pool ℕ NamedWaker) (things : Names Thing) (ws : List ℕ) → is_drained q ≡ b → Halfway q things → wakers_of q.wakes ≡ ws
-    → Goes (settled_at b (hall_of q things) ws) (if b then heard q else q) things (Told answers.Done)
+    → Goes (settled_at b (pool_by_name q things) ws) (if b then heard q else q) things (Told answers.Done)
 settles_at true q things ws drained half woken = record {
-  hall = refl;
+  pool = refl;
   replied = refl;
   woken = wakers_last q.wakes (map_list {A = ℕ × NamedWaker} (λ e. e.1) q.drains) ∙ (λ i. woken i ++ wakers_named q.drains i);
   keeps = record {
@@ -66,7 +66,7 @@ settles_at true q things ws drained half woken = record {
   };
 }
 settles_at false q things ws drained half woken = record {
-  hall = refl;
+  pool = refl;
   replied = refl;
   woken = woken;
   keeps = record {
@@ -77,25 +77,25 @@ settles_at false q things ws drained half woken = record {
   };
 }
 
-settles : (q : Pool ℕ NamedWaker) (things : Names Thing) (ws : List ℕ) → Halfway q things → wakers_of q.wakes ≡ ws → Goes (settled (hall_of q things) ws) (pool.settled q) things (Told answers.Done)
+settles : (q : Pool ℕ NamedWaker) (things : Names Thing) (ws : List ℕ) → Halfway q things → wakers_of q.wakes ≡ ws → Goes (settled (pool_by_name q things) ws) (pool.settled q) things (Told answers.Done)
 settles q things ws half woken = settles_at (is_drained q) q things ws refl half woken
 
 -- ---- a place that becomes free
 
--- in a pool with one place less taken than in the hall
+-- where one place less is taken than was
 passes_for : (waiting : Numbered) (q : Pool ℕ NamedWaker) (things : Names Thing) (k : ℕ) → q.waiting ≡ waiting → Halfway q things → k ≡ taken q + 1 → q.wakes ≡ []
-    → Goes (passed_for (names_of waiting) (record (hall_of q things) { taken = k })) (pool.settled (pool.passed_for waiting q)) things (Told answers.Done)
+    → Goes (passed_for (names_of waiting) (record (pool_by_name q things) { taken = k })) (pool.settled (pool.passed_for waiting q)) things (Told answers.Done)
 passes_for [] q things k waits half more quiet =
     let less : taken q ≡ k - 1 = omega arith in
-    subst (λ (t : ℕ). Goes (settled (record (hall_of q things) { taken = t }) []) (pool.settled q) things (Told answers.Done)) less (settles q things [] half (ap wakers_of quiet))
+    subst (λ (t : ℕ). Goes (settled (record (pool_by_name q things) { taken = t }) []) (pool.settled q) things (Told answers.Done)) less (settles q things [] half (ap wakers_of quiet))
 passes_for (e ∷ rest) q things k waits half more quiet =
     let asking : AsksStand (λ f. asked (get things f)) (e ∷ rest) q.granted q.cut q.draining = subst (λ (l : Numbered). AsksStand (λ f. asked (get things f)) l q.granted q.cut q.draining) waits half.asking in
     let none : get q.granted e.0 ≡ None = asking.ungranted e.0 (ap (λ b. is_some (cond b (Some e.1) (waker_under rest e.0))) (eq-eqb e.0 e.0 refl)) in
     let counted : map.len (insert q.granted e.0 1) ≡ map.len q.granted + 1 = inserted q.granted e.0 1 none in
     let total : taken q + 1 ≡ lent_count q.lent + map.len (insert q.granted e.0 1) = omega arith in
-    subst (λ (t : Hall). Goes (settled t (e.1.waker ∷ [])) (pool.settled (record q { waiting = rest; granted = insert q.granted e.0 1; wakes = q.wakes ++ e.1 ∷ [] })) things (Told answers.Done))
-    (hall_path (hall_of (record q { waiting = rest; granted = insert q.granted e.0 1; wakes = q.wakes ++ e.1 ∷ [] }) things)
-    (record (hall_of q things) { taken = k; waiting = names_of rest; things = insert (seen (live_of q.granted) things) e.1.future (asks true) })
+    subst (λ (t : PoolByName). Goes (settled t (e.1.waker ∷ [])) (pool.settled (record q { waiting = rest; granted = insert q.granted e.0 1; wakes = q.wakes ++ e.1 ∷ [] })) things (Told answers.Done))
+    (pool_path (pool_by_name (record q { waiting = rest; granted = insert q.granted e.0 1; wakes = q.wakes ++ e.1 ∷ [] }) things)
+    (record (pool_by_name q things) { taken = k; waiting = names_of rest; things = insert (seen (live_of q.granted) things) e.1.future (asks true) })
     refl (sym total ∙ sym more) refl (seen_granted q.granted things e.1.future e.0 asking.linked.single asking.linked.named.0) refl refl refl)
     (settles (record q { waiting = rest; granted = insert q.granted e.0 1; wakes = q.wakes ++ e.1 ∷ [] }) things (e.1.waker ∷ []) (record {
       going = half.going;
@@ -118,8 +118,8 @@ lent_within lent slot is = elim (cases_lt slot (length lent)) [
 ]
 
 module _ (p : Pool ℕ NamedWaker) (things : Names Thing) (stands : Stands p things) where
-  abbrev s : Hall
-  s = hall_of p things
+  abbrev s : PoolByName
+  s = pool_by_name p things
 
   abbrev ask_at : At
   ask_at = λ q. asked (get things q)
@@ -136,8 +136,8 @@ module _ (p : Pool ℕ NamedWaker) (things : Names Thing) (stands : Stands p thi
       let some : 1 ≤ taken p = omega arith in
       let more : taken p ≡ lent_count (set p.lent lease.0 false) + map.len p.granted + 1 = omega arith in
       subst (λ (o : Outcome). Goes o (pool.with_lease p lease) (remove things l) (Told answers.Done)) (sym (ap (λ x. back_of x s l) (seen-at (live_of p.granted) things l (Held lease) is)))
-      (subst (λ (t : Hall). Goes (passed_for (names_of p.waiting) t) (pool.with_lease p lease) (remove things l) (Told answers.Done))
-      (hall_path (record (hall_of (record p { shelf = p.shelf ++ lease ∷ []; lent = set p.lent lease.0 false }) (remove things l)) { taken = taken p })
+      (subst (λ (t : PoolByName). Goes (passed_for (names_of p.waiting) t) (pool.with_lease p lease) (remove things l) (Told answers.Done))
+      (pool_path (record (pool_by_name (record p { shelf = p.shelf ++ lease ∷ []; lent = set p.lent lease.0 false }) (remove things l)) { taken = taken p })
       (record s { shelf = s.shelf ++ (lease.0, lease.1) ∷ []; things = remove s.things l })
       (length-set p.lent lease.0 false) refl refl (seen-remove (live_of p.granted) things l) refl refl refl)
       (passes_for p.waiting (record p { shelf = p.shelf ++ lease ∷ []; lent = set p.lent lease.0 false }) (remove things l) (taken p) refl (record {
@@ -158,7 +158,7 @@ module _ (p : Pool ℕ NamedWaker) (things : Names Thing) (stands : Stands p thi
       → AsksStand (put ask_at f None) waiting p.granted cut p.draining
       → Goes (quietly (record s { things = remove s.things f; waiting = without s.waiting f }) (Told answers.Done)) (record p { waiting = waiting; cut = cut }) (remove things f) (Told answers.Done)
   just_ends f a waiting cut is named asking = record {
-    hall = hall_path _ _ refl refl refl (seen-remove (live_of p.granted) things f) named refl refl;
+    pool = pool_path _ _ refl refl refl (seen-remove (live_of p.granted) things f) named refl refl;
     replied = refl;
     woken = silent;
     keeps = keeps_asks p things stands (remove things f) waiting p.granted cut (going_gone things f stands.keeps.going)
@@ -173,8 +173,8 @@ module _ (p : Pool ℕ NamedWaker) (things : Names Thing) (stands : Stands p thi
       let some : 1 ≤ taken p = omega arith in
       let more : taken p ≡ lent_count p.lent + map.len (remove p.granted m) + 1 = omega arith in
       subst (λ (o : Outcome). Goes o (pool.passed_on (record p { granted = remove p.granted m })) (remove things f) (Told answers.Done)) (sym (end_is f (lease.Queued m) true is (ap is_some one)))
-      (subst (λ (t : Hall). Goes (passed_for (names_of p.waiting) t) (pool.passed_on (record p { granted = remove p.granted m })) (remove things f) (Told answers.Done))
-      (hall_path (record (hall_of (record p { granted = remove p.granted m }) (remove things f)) { taken = taken p }) (record s { things = remove s.things f })
+      (subst (λ (t : PoolByName). Goes (passed_for (names_of p.waiting) t) (pool.passed_on (record p { granted = remove p.granted m })) (remove things f) (Told answers.Done))
+      (pool_path (record (pool_by_name (record p { granted = remove p.granted m }) (remove things f)) { taken = taken p }) (record s { things = remove s.things f })
       refl refl refl (seen_took p.granted things f m stands.keeps.asking.linked.single (ap asked is)) refl refl refl)
       (passes_for p.waiting (record p { granted = remove p.granted m }) (remove things f) (taken p) refl (record {
         going = going_gone things f stands.keeps.going;
@@ -221,7 +221,7 @@ module _ (p : Pool ℕ NamedWaker) (things : Names Thing) (stands : Stands p thi
   drains = by_flag p.draining refl
     where
       by_flag : (b : Bool) → p.draining ≡ b → Goes (drained_at b s) (if b then p else pool.settled cut_off) things (Told answers.Done)
-      by_flag true draining = record { hall = refl; replied = refl; woken = silent; keeps = stands.keeps }
+      by_flag true draining = record { pool = refl; replied = refl; woken = silent; keeps = stands.keeps }
       by_flag false undrained = settles cut_off things (wakers (names_of p.waiting)) (record {
         going = stands.keeps.going;
         asking = all_leave ask_at p.waiting p.granted p.cut p.draining stands.keeps.asking undrained;

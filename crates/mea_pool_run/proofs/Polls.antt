@@ -23,17 +23,17 @@ use Rattle.mea_pool_core.proofs.Shelves.{count_lent}
 use Rattle.mea_pool_run.specs.declared.reply.PoolReply.TheVariants.{Told, Leased}
 use Rattle.mea_pool_run.specs.declared.thing.Thing.{Thing}
 use Rattle.mea_pool_run.specs.declared.thing.Thing.TheVariants.{Ask, Held}
-use Rattle.mea_pool_run.specs.Hall.{asks, leases, Hall, Outcome, quietly, lent, gets_or_waits, polled_at, polled, poll_of}
-use Rattle.mea_pool_run.specs.Kept.{names_of, is_granted, live_of, hall_of, asked, awaited, held, IsGoing, AsksStand, LeasesStand, WaitsStand, Keeps, Stands, Goes, wakers_of}
+use Rattle.mea_pool_run.specs.PoolByName.{asks, leases, PoolByName, Outcome, quietly, lent, gets_or_waits, polled_at, polled, poll_of}
+use Rattle.mea_pool_run.specs.Kept.{names_of, is_granted, live_of, pool_by_name, asked, awaited, held, IsGoing, AsksStand, LeasesStand, WaitsStand, Keeps, Stands, Goes, wakers_of}
 use Rattle.mea_pool_run.proofs.Linking.{At, put, absent, registered_last, waits_named, registered_again}
 use Rattle.mea_pool_run.proofs.Standing.{took, waits_last, rewaked_waits, refused, lends}
 use Rattle.mea_pool_run.proofs.Things.{put_back, at_each, at_alike, at_inserted, at_removed, at_without, at_gone, at_come, at_still, going_put, going_gone, seen_took}
 
-abbrev pub hall_path : (s t : Hall) → s.size ≡ t.size → s.taken ≡ t.taken → s.shelf ≡ t.shelf → s.things ≡ t.things → s.waiting ≡ t.waiting → s.draining ≡ t.draining → s.drains ≡ t.drains → s ≡ t
-hall_path s t size taken shelf things waiting draining drains =
+abbrev pub pool_path : (s t : PoolByName) → s.size ≡ t.size → s.taken ≡ t.taken → s.shelf ≡ t.shelf → s.things ≡ t.things → s.waiting ≡ t.waiting → s.draining ≡ t.draining → s.drains ≡ t.drains → s ≡ t
+pool_path s t size taken shelf things waiting draining drains =
     λ i. record { size = size i; taken = taken i; shelf = shelf i; things = things i; waiting = waiting i; draining = draining i; drains = drains i }
 
--- the waits that a hall keeps are those of the pool
+-- the waits that are known by name are those of the pool
 pub may_poll : (p : Pool ℕ NamedWaker) (things : Names Thing) (f : ℕ) (a : LeaseWait) → Keeps p things → get things f ≡ Some (Ask a) → MayPoll p a
 may_poll p things f lease.New keeps is = (tt, tt)
 may_poll p things f (lease.Queued n) keeps is = (
@@ -47,8 +47,8 @@ may_poll p things f lease.Done keeps is = absurd (subst IsGoing is (keeps.going 
 may_poll p things f lease.Refused keeps is = absurd (subst IsGoing is (keeps.going f))
 
 module _ (p : Pool ℕ NamedWaker) (things : Names Thing) (stands : Stands p things) where
-  abbrev s : Hall
-  s = hall_of p things
+  abbrev s : PoolByName
+  s = pool_by_name p things
 
   abbrev ask_at : At
   ask_at = λ q. asked (get things q)
@@ -72,7 +72,7 @@ module _ (p : Pool ℕ NamedWaker) (things : Names Thing) (stands : Stands p thi
       → Goes (lent s.shelf s n f t) (with_lent g shelf l.0) (insert (remove things f) n (Held l)) (Leased l.0 l.1)
   gets_lease f n t a l shelf g is fresh first within free count sees asking drained =
       subst (λ (x : List (ℕ × ℕ)). Goes (lent x s n f t) (with_lent g shelf l.0) (insert (remove things f) n (Held l)) (Leased l.0 l.1)) (sym first) (record {
-        hall = hall_path _ _ (length-set p.lent l.0 true) total refl (seen-insert (live_of g) (remove things f) n (Held l) ∙ ap (λ m. insert m n (leases l.0 l.1)) sees) refl refl refl;
+        pool = pool_path _ _ (length-set p.lent l.0 true) total refl (seen-insert (live_of g) (remove things f) n (Held l) ∙ ap (λ m. insert m n (leases l.0 l.1)) sees) refl refl refl;
         replied = refl;
         woken = silent;
         keeps = record {
@@ -156,7 +156,7 @@ module _ (p : Pool ℕ NamedWaker) (things : Names Thing) (stands : Stands p thi
       → names_of waiting ≡ registering (names_of p.waiting) f w → AsksStand (put ask_at f (Some m)) waiting p.granted p.cut p.draining
       → Goes (quietly (record s { waiting = registering s.waiting f w }) (Told answers.Pending)) (record p { waiting = waiting }) (insert things f (Ask (lease.Queued m))) (Told answers.Pending)
   stays f n w a m waiting is was not_granted named asking = record {
-    hall = hall_path _ _ refl refl refl (seen-alike (live_of p.granted) things f (Ask a) (Ask (lease.Queued m)) is (ap asks (not_granted ∙ sym was))) named refl refl;
+    pool = pool_path _ _ refl refl refl (seen-alike (live_of p.granted) things f (Ask a) (Ask (lease.Queued m)) is (ap asks (not_granted ∙ sym was))) named refl refl;
     replied = refl;
     woken = silent;
     keeps = keeps_asks (insert things f (Ask (lease.Queued m))) waiting p.granted p.cut (going_put things f (Ask (lease.Queued m)) stands.keeps.going tt)
@@ -218,7 +218,7 @@ module _ (p : Pool ℕ NamedWaker) (things : Names Thing) (stands : Stands p thi
   goes_away : (f : ℕ) (a : LeaseWait) (cut : FinMap nat_cmp ℕ) → get things f ≡ Some (Ask a) → AsksStand (put ask_at f None) p.waiting p.granted cut p.draining
       → Goes (quietly (record s { things = remove s.things f }) (Told answers.Gone)) (record p { cut = cut }) (remove things f) (Told answers.Gone)
   goes_away f a cut is asking = record {
-    hall = hall_path _ _ refl refl refl (seen-remove (live_of p.granted) things f) refl refl refl;
+    pool = pool_path _ _ refl refl refl (seen-remove (live_of p.granted) things f) refl refl refl;
     replied = refl;
     woken = silent;
     keeps = keeps_asks (remove things f) p.waiting p.granted cut (going_gone things f stands.keeps.going)

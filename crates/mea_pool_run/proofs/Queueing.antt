@@ -7,7 +7,7 @@ use Rattle.mea_base.proofs.Maps.{by_put, by_gone}
 use Rattle.mea_by_name.specs.ByName.{Names}
 use Rattle.mea_by_name.specs.NamedQueue.{Waiting, waker_for, registering, without}
 use Rattle.mea_by_name.proofs.NamedQueues.{registering-other, without-other}
-use Rattle.mea_pool_run.specs.Hall.{Live, asks}
+use Rattle.mea_pool_run.specs.PoolByName.{Live, asks}
 use Rattle.mea_pool_run.specs.Orderly.{names, IsPart}
 
 -- no two that wait have one name

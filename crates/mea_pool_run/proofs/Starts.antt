@@ -12,11 +12,11 @@ use Rattle.mea_pool_core.specs.Pool.{Pool, fresh}
 use Rattle.mea_pool_core.specs.Shelf.{lent_count, none_lent, slots_below}
 use Rattle.mea_pool_core.proofs.Shelves.{length_below, length_none, count_none}
 use Rattle.mea_pool_run.specs.declared.thing.Thing.{Thing}
-use Rattle.mea_pool_run.specs.Hall.{begun}
-use Rattle.mea_pool_run.specs.Kept.{live_of, hall_of, asked, awaited, held, IsGoing, IsMet, IsTold, Linked, Stands, AreBelow}
+use Rattle.mea_pool_run.specs.PoolByName.{begun}
+use Rattle.mea_pool_run.specs.Kept.{live_of, pool_by_name, asked, awaited, held, IsGoing, IsMet, IsTold, Linked, Stands, AreBelow}
 use Rattle.mea_pool_run.specs.Script.{pool_rules}
 use Rattle.mea_pool_run.proofs.Linking.{none_some}
-use Rattle.mea_pool_run.proofs.Polls.{hall_path}
+use Rattle.mea_pool_run.proofs.Polls.{pool_path}
 
 abbrev no_things : Names Thing
 no_things = empty
@@ -34,10 +34,10 @@ module _ (told : Option Thing → Option ℕ) (nothing : told None ≡ None) whe
     home = λ f n is. absurd (untold f n is);
   }
 
-pub starts : (size : ℕ) (numbers : List ℕ) (p : Pool ℕ NamedWaker) → numbers ≡ slots_below size → p ≡ fresh numbers → hall_of p no_things ≡ begun size
+pub starts : (size : ℕ) (numbers : List ℕ) (p : Pool ℕ NamedWaker) → numbers ≡ slots_below size → p ≡ fresh numbers → pool_by_name p no_things ≡ begun size
 starts size numbers p all is =
-    ap (λ (q : Pool ℕ NamedWaker). hall_of q no_things) (is ∙ ap (λ (ns : List ℕ). fresh {R = ℕ} {W = NamedWaker} ns) all)
-    ∙ hall_path (hall_of (fresh (slots_below size)) no_things) (begun size)
+    ap (λ (q : Pool ℕ NamedWaker). pool_by_name q no_things) (is ∙ ap (λ (ns : List ℕ). fresh {R = ℕ} {W = NamedWaker} ns) all)
+    ∙ pool_path (pool_by_name (fresh (slots_below size)) no_things) (begun size)
     (length_none (length (slots_below size)) ∙ length_below size)
     (none_taken (length (slots_below size)))
     refl (seen-empty (live_of empty)) refl refl refl

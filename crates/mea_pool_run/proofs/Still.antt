@@ -14,10 +14,10 @@ use Rattle.mea_pool_run.specs.declared.reply.PoolReply.{PoolReply}
 use Rattle.mea_pool_run.specs.declared.reply.PoolReply.TheVariants.{Told, Unknown}
 use Rattle.mea_pool_run.specs.declared.thing.Thing.{Thing}
 use Rattle.mea_pool_run.specs.declared.thing.Thing.TheVariants.{Ask, Wait, Held}
-use Rattle.mea_pool_run.specs.Hall.{Hall, Outcome, quietly, made, poll_of, end_of, use_of, back_of}
-use Rattle.mea_pool_run.specs.Kept.{live_of, hall_of, asked, awaited, held, IsGoing, IsNew, AsksStand, LeasesStand, WaitsStand, Keeps, Stands, Goes, wakers_of}
+use Rattle.mea_pool_run.specs.PoolByName.{PoolByName, Outcome, quietly, made, poll_of, end_of, use_of, back_of}
+use Rattle.mea_pool_run.specs.Kept.{live_of, pool_by_name, asked, awaited, held, IsGoing, IsNew, AsksStand, LeasesStand, WaitsStand, Keeps, Stands, Goes, wakers_of}
 use Rattle.mea_pool_run.proofs.Linking.{At}
-use Rattle.mea_pool_run.proofs.Polls.{hall_path}
+use Rattle.mea_pool_run.proofs.Polls.{pool_path}
 use Rattle.mea_pool_run.proofs.Things.{at_alike, going_put}
 
 -- no wait stands there, and no lease
@@ -31,12 +31,12 @@ IsNoLease (Some (Held lease)) = ⊥
 IsNoLease _ = Unit {0}
 
 module _ (p : Pool ℕ NamedWaker) (things : Names Thing) (stands : Stands p things) where
-  abbrev s : Hall
-  s = hall_of p things
+  abbrev s : PoolByName
+  s = pool_by_name p things
 
   pub nothing_changes : (o : Outcome) (reply : PoolReply) → o ≡ quietly s reply → Goes o p things reply
   nothing_changes o reply is = subst (λ (x : Outcome). Goes x p things reply) (sym is) (record {
-    hall = refl;
+    pool = refl;
     replied = refl;
     woken = ap wakers_of stands.quiet;
     keeps = stands.keeps;
@@ -98,7 +98,7 @@ module _ (p : Pool ℕ NamedWaker) (things : Names Thing) (stands : Stands p thi
 
   pub makes : (n : ℕ) (t : Thing) → get things n ≡ None → IsNew t → Goes (made s n (live_of p.granted t)) p (insert things n t) (Told answers.Made)
   makes n t fresh new = record {
-    hall = hall_path _ _ refl refl refl (seen-insert (live_of p.granted) things n t) refl refl refl;
+    pool = pool_path _ _ refl refl refl (seen-insert (live_of p.granted) things n t) refl refl refl;
     replied = refl;
     woken = ap wakers_of stands.quiet;
     keeps = alike (insert things n t) (going_put things n t stands.keeps.going (going t new))
@@ -139,7 +139,7 @@ module _ (p : Pool ℕ NamedWaker) (things : Names Thing) (stands : Stands p thi
       → Goes (use_of (get s.things l) s l v) p (insert things l (Held (lease.0, v))) (Told answers.Done)
   sets l v lease is =
       subst (λ (o : Outcome). Goes o p (insert things l (Held (lease.0, v))) (Told answers.Done)) (sym (ap (λ x. use_of x s l v) (seen-at (live_of p.granted) things l (Held lease) is))) (record {
-        hall = hall_path _ _ refl refl refl (seen-insert (live_of p.granted) things l (Held (lease.0, v))) refl refl refl;
+        pool = pool_path _ _ refl refl refl (seen-insert (live_of p.granted) things l (Held (lease.0, v))) refl refl refl;
         replied = refl;
         woken = ap wakers_of stands.quiet;
         keeps = alike (insert things l (Held (lease.0, v))) (going_put things l (Held (lease.0, v)) stands.keeps.going tt)

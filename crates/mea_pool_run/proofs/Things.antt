@@ -12,7 +12,7 @@ use Rattle.mea_by_name.proofs.Own.{seen-remove}
 use Rattle.mea_pool_core.specs.declared.lease_wait.LeaseWait.TheVariants as lease
 use Rattle.mea_pool_run.specs.declared.thing.Thing.{Thing}
 use Rattle.mea_pool_run.specs.declared.thing.Thing.TheVariants.{Ask, Wait, Held}
-use Rattle.mea_pool_run.specs.Hall.{asks}
+use Rattle.mea_pool_run.specs.PoolByName.{asks}
 use Rattle.mea_pool_run.specs.Kept.{live_of, asked, IsGoing, AreBelow}
 use Rattle.mea_pool_run.proofs.Linking.{At, put, put_none, IsSingle}
 

@@ -13,7 +13,7 @@ use Rattle.mea_pool_core.specs.Pool.{Pool, taken, is_drained}
 use Rattle.mea_pool_core.specs.Shelf.{is_lent}
 use Rattle.mea_pool_run.specs.declared.thing.Thing.{Thing}
 use Rattle.mea_pool_run.specs.declared.thing.Thing.TheVariants.{Ask, Wait, Held}
-use Rattle.mea_pool_run.specs.Hall.{Live, asks, awaits, leases, Hall, Outcome}
+use Rattle.mea_pool_run.specs.PoolByName.{Live, asks, awaits, leases, PoolByName, Outcome}
 use Rattle.mea_pool_run.specs.declared.reply.PoolReply.{PoolReply}
 
 -- who waits under numbers, in order, each with its waker
@@ -38,8 +38,8 @@ live_of granted (Wait wait) = awaits
 live_of granted (Held l) = leases l.0 l.1
 
 -- a pool and its things, by name
-abbrev pub hall_of : Pool ℕ NamedWaker → Names Thing → Hall
-hall_of p things = record {
+abbrev pub pool_by_name : Pool ℕ NamedWaker → Names Thing → PoolByName
+pool_by_name p things = record {
   size = length p.lent;
   taken = taken p;
   shelf = p.shelf;
@@ -131,7 +131,7 @@ wakers_of ks = map (λ (k : NamedWaker). k.waker) ks
 
 -- an event had this outcome
 pub record Goes (o : Outcome) (p : Pool ℕ NamedWaker) (things : Names Thing) (reply : PoolReply) : Type 0 where
-  pub hall : hall_of p things ≡ o.hall
+  pub pool : pool_by_name p things ≡ o.pool
   pub replied : reply ≡ o.reply
   pub woken : wakers_of p.wakes ≡ o.wakes
   pub keeps : Keeps p things

@@ -1,4 +1,4 @@
-pub mod Hall
+pub mod PoolByName
 pub mod Kept
 pub mod Lines
 pub mod Orderly

@@ -4,17 +4,17 @@ use Rattle.std.specs.Fmt.{decimal}
 use Rattle.mea_script.specs.Rules.{Rules}
 use Rattle.mea_script.specs.Told.{Told, told_by}
 use Rattle.mea_pool_run.specs.declared.event.PoolEvent.{PoolEvent}
-use Rattle.mea_pool_run.specs.Hall.{Hall, begun, outcome}
+use Rattle.mea_pool_run.specs.PoolByName.{PoolByName, begun, outcome}
 use Rattle.mea_pool_run.specs.Lines.{event_of}
 use Rattle.mea_pool_run.specs.Reply.{text_of}
 
 -- no event is refused; each has its reply with its wakes, and nothing is told at the end
-abbrev pub pool_rules : Rules Hall PoolEvent
+abbrev pub pool_rules : Rules PoolByName PoolEvent
 pool_rules = record {
   event = λ s line. event_of line;
   cause = λ s e. None;
   reply = λ s n e. text_of (outcome s n e).reply (outcome s n e).wakes;
-  next = λ s n e. (outcome s n e).hall;
+  next = λ s n e. (outcome s n e).pool;
   last = λ s n. [];
 }
 

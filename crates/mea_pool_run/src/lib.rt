@@ -4,9 +4,9 @@
 #![tactic(auto)]
 
 mod event;
-mod hall;
 mod lines;
 mod machine;
+mod named_pool;
 mod reply;
 mod running;
 mod thing;

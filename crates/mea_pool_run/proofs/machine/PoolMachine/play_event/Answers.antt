@@ -1,10 +1,10 @@
 use Rattle.std.proofs.Common.{◌+◌, ◌∙◌}
-use Rattle.mea_pool_run.proofs.Events.{whatever, next_hall, next_stands, next_text, below_as}
+use Rattle.mea_pool_run.proofs.Events.{whatever, next_pool, next_stands, next_text, below_as}
 use Rattle.mea_pool_run.proofs.machine.PoolMachine.play_event.Goals as goal
 
 pub returns-clause-next : goal.returns-clause-next
 returns-clause-next c =
-    whatever c.put_pool_reply.result (next_hall _ c.play.new.self.pool c.take_wakes.new.self.pool c.play.new.self.things c.take_wakes.new.self.things _
+    whatever c.put_pool_reply.result (next_pool _ c.play.new.self.pool c.take_wakes.new.self.pool c.play.new.self.things c.take_wakes.new.self.things _
     c.in_ok-reply.ensures.goes c.in_ok-take_wakes.ensures.things c.in_ok-take_wakes.ensures.pool)
 
 pub returns-clause-stands : goal.returns-clause-stands

@@ -20,7 +20,7 @@ pub data Live : Type 0 where
 -- how many resources there are; how many places are taken, by leases and by the waits that were granted one; the shelf, each
 -- resource after its slot, in the order in which they are lent; what lives; who waits for a lease, in order, each with its
 -- waker; whether the pool is draining; and who waits for the end of the drain
-pub record Hall : Type 0 where
+pub record PoolByName : Type 0 where
   pub size : ℕ
   pub taken : ℕ
   pub shelf : List (ℕ × ℕ)
@@ -30,118 +30,118 @@ pub record Hall : Type 0 where
   pub drains : Waiting
 
 -- so many resources, each its own slot, all on the shelf, and no names
-abbrev pub begun : ℕ → Hall
+abbrev pub begun : ℕ → PoolByName
 begun size = record { size = size; taken = 0; shelf = with_slots (slots_below size); things = empty; waiting = []; draining = false; drains = [] }
 
 -- what an event leaves, and replies, and whom it wakes
 pub record Outcome : Type 0 where
-  pub hall : Hall
+  pub pool : PoolByName
   pub reply : PoolReply
   pub wakes : List ℕ
 
--- this hall and this reply, and nobody is woken
-abbrev pub quietly : Hall → PoolReply → Outcome
-quietly s reply = record { hall = s; reply = reply; wakes = [] }
+-- this pool and this reply, and nobody is woken
+abbrev pub quietly : PoolByName → PoolReply → Outcome
+quietly s reply = record { pool = s; reply = reply; wakes = [] }
 
 -- the pool is draining, and no place is taken
-abbrev pub is_drained : Hall → Bool
+abbrev pub is_drained : PoolByName → Bool
 is_drained s = s.draining && (s.taken == 0)
 
 -- after these wakes: once the pool is drained, all who wait for that are woken, in their order
-abbrev pub settled_at : Bool → Hall → List ℕ → Outcome
+abbrev pub settled_at : Bool → PoolByName → List ℕ → Outcome
 settled_at drained s wakes =
-    if drained then record { hall = record s { drains = [] }; reply = Told answer.Done; wakes = wakes ++ wakers s.drains }
-    else record { hall = s; reply = Told answer.Done; wakes = wakes }
+    if drained then record { pool = record s { drains = [] }; reply = Told answer.Done; wakes = wakes ++ wakers s.drains }
+    else record { pool = s; reply = Told answer.Done; wakes = wakes }
 
 -- the same, by whether the pool is drained now
-abbrev pub settled : Hall → List ℕ → Outcome
+abbrev pub settled : PoolByName → List ℕ → Outcome
 settled s wakes = settled_at (is_drained s) s wakes
 
 -- a place that becomes free goes to the first that waits, which is granted and woken
-abbrev pub passed_for : Waiting → Hall → Outcome
+abbrev pub passed_for : Waiting → PoolByName → Outcome
 passed_for [] s = settled (record s { taken = s.taken - 1 }) []
 passed_for (first ∷ rest) s = settled (record s { waiting = rest; things = insert s.things first.0 (asks true) }) (first.1 ∷ [])
 
 -- the same, by who waits now
-abbrev pub passed_on : Hall → Outcome
+abbrev pub passed_on : PoolByName → Outcome
 passed_on s = passed_for s.waiting s
 
 -- the waits for a lease leave their list and are woken, in its order; a second drain changes nothing
-abbrev pub drained_at : Bool → Hall → Outcome
+abbrev pub drained_at : Bool → PoolByName → Outcome
 drained_at draining s = if draining then quietly s (Told answer.Done) else settled (record s { waiting = []; draining = true }) (wakers s.waiting)
 
 -- the same, by whether the pool is draining now
-abbrev pub drained : Hall → Outcome
+abbrev pub drained : PoolByName → Outcome
 drained s = drained_at s.draining s
 
 -- wait f gets the first resource of this shelf, by a lease that is named n, and then so many places are taken
-abbrev pub lent : List (ℕ × ℕ) → Hall → ℕ → ℕ → ℕ → Outcome
+abbrev pub lent : List (ℕ × ℕ) → PoolByName → ℕ → ℕ → ℕ → Outcome
 lent [] s n f taken = quietly s Unknown
 lent (first ∷ rest) s n f taken =
     quietly (record s { taken = taken; shelf = rest; things = insert (remove s.things f) n (leases first.0 first.1) }) (Leased first.0 first.1)
 
 -- wait f for a lease gets one where it may, and else waits, in its place or last
-abbrev pub gets_or_waits : Bool → Hall → ℕ → ℕ → ℕ → Outcome
+abbrev pub gets_or_waits : Bool → PoolByName → ℕ → ℕ → ℕ → Outcome
 gets_or_waits gets s n f w = if gets then lent s.shelf s n f (s.taken + 1) else quietly (record s { waiting = registering s.waiting f w }) (Told answer.Pending)
 
 -- while draining, one that was not granted is refused; before, one gets a lease where it does not wait and a place is free
-abbrev pub polled_at : Bool → Hall → ℕ → ℕ → ℕ → Outcome
+abbrev pub polled_at : Bool → PoolByName → ℕ → ℕ → ℕ → Outcome
 polled_at draining s n f w =
     if draining then quietly (record s { things = remove s.things f }) (Told answer.Gone)
     else gets_or_waits (not (waits s.waiting f) && nat_lt s.taken s.size) s n f w
 
 -- wait f for a lease is polled by line n: one that was granted gets the lease
-abbrev pub polled : Bool → Hall → ℕ → ℕ → ℕ → Outcome
+abbrev pub polled : Bool → PoolByName → ℕ → ℕ → ℕ → Outcome
 polled granted s n f w = if granted then lent s.shelf s n f s.taken else polled_at s.draining s n f w
 
 -- wait f for the end of the drain is polled
-abbrev pub polled_drain : Bool → Hall → ℕ → ℕ → Outcome
+abbrev pub polled_drain : Bool → PoolByName → ℕ → ℕ → Outcome
 polled_drain drained s f w =
     if drained then quietly (record s { things = remove s.things f }) (Told answer.Ready)
     else quietly (record s { drains = registering s.drains f w }) (Told answer.Pending)
 
 -- wait f for a lease ends: a granted one gives its place to the next
-abbrev pub ended : Bool → Hall → ℕ → Outcome
+abbrev pub ended : Bool → PoolByName → ℕ → Outcome
 ended granted s f =
     if granted then passed_on (record s { things = remove s.things f })
     else quietly (record s { things = remove s.things f; waiting = without s.waiting f }) (Told answer.Done)
 
 -- line n makes a wait
-abbrev pub made : Hall → ℕ → Live → Outcome
+abbrev pub made : PoolByName → ℕ → Live → Outcome
 made s n live = quietly (record s { things = insert s.things n live }) (Told answer.Made)
 
 -- ---- by what lives under a name
 
 -- what has the name f is polled by line n
-abbrev pub poll_of : Option Live → Hall → ℕ → ℕ → ℕ → Outcome
+abbrev pub poll_of : Option Live → PoolByName → ℕ → ℕ → ℕ → Outcome
 poll_of None s n f w = quietly s Unknown
 poll_of (Some (asks granted)) s n f w = polled granted s n f w
 poll_of (Some awaits) s n f w = polled_drain (is_drained s) s f w
 poll_of (Some (leases slot value)) s n f w = quietly s Unknown
 
 -- what has the name f ends
-abbrev pub end_of : Option Live → Hall → ℕ → Outcome
+abbrev pub end_of : Option Live → PoolByName → ℕ → Outcome
 end_of None s f = quietly s Unknown
 end_of (Some (asks granted)) s f = ended granted s f
 end_of (Some awaits) s f = quietly (record s { things = remove s.things f; drains = without s.drains f }) (Told answer.Done)
 end_of (Some (leases slot value)) s f = quietly s Unknown
 
 -- what has the name l has the resource v now
-abbrev pub use_of : Option Live → Hall → ℕ → ℕ → Outcome
+abbrev pub use_of : Option Live → PoolByName → ℕ → ℕ → Outcome
 use_of None s l v = quietly s Unknown
 use_of (Some (asks granted)) s l v = quietly s Unknown
 use_of (Some awaits) s l v = quietly s Unknown
 use_of (Some (leases slot value)) s l v = quietly (record s { things = insert s.things l (leases slot v) }) (Told answer.Done)
 
 -- a lease is put back: its resource goes to the end of the shelf, and its place to the first that waits
-abbrev pub back_of : Option Live → Hall → ℕ → Outcome
+abbrev pub back_of : Option Live → PoolByName → ℕ → Outcome
 back_of None s l = quietly s Unknown
 back_of (Some (asks granted)) s l = quietly s Unknown
 back_of (Some awaits) s l = quietly s Unknown
 back_of (Some (leases slot value)) s l = passed_on (record s { shelf = s.shelf ++ (slot, value) ∷ []; things = remove s.things l })
 
 -- the event of line n
-unfoldable pub outcome : Hall → ℕ → PoolEvent → Outcome
+unfoldable pub outcome : PoolByName → ℕ → PoolEvent → Outcome
 outcome s n event.Ask = made s n (asks false)
 outcome s n event.Wait = made s n awaits
 outcome s n (event.Poll f w) = poll_of (get s.things f) s n f w

@@ -1,7 +1,7 @@
 use Rattle.std.proofs.Common.{◌≡◌, ◌≤◌}
 use Rattle.std.specs.Vec.{vec_len, vec_capacity}
 use Rattle.mea_pool_core.specs.Shelf.{slots_below}
-use Rattle.mea_pool_run.proofs.hall.numbered.Given as goal
+use Rattle.mea_pool_run.proofs.named_pool.numbered.Given as goal
 
 -- the numbers so far, and room for all
 abbrev pub invariant-loop-number : goal.invariant-loop-number

@@ -15,7 +15,7 @@ use Rattle.mea_pool_run.proofs.Events.{goes_as, below_as}
 use Rattle.mea_pool_run.proofs.Polls.{may_poll, got, pending, closed_to}
 use Rattle.mea_pool_run.proofs.Still.{IsNoWait, poll_unknown}
 use Rattle.mea_pool_run.proofs.Things.{below_more, below_after, below_moved, below_stays}
-use Rattle.mea_pool_run.proofs.hall.PoolHall.poll.Goals as goal
+use Rattle.mea_pool_run.proofs.named_pool.NamedPool.poll.Goals as goal
 
 pub poll_lease-requires : goal.poll_lease-requires
 poll_lease-requires c = may_poll c.args.self.now.pool c.args.self.now.things c.args.name c.in-Ask.wait c.requires.stands.keeps (sym c.get_mut.ensures.value ∙ ap option_copied_mut c.in-Some.is ∙ ap (λ (t : Thing). Some t) c.in-Ask.is)

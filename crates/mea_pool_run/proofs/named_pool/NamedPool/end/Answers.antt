@@ -2,7 +2,7 @@ use Rattle.std.proofs.Common.{Some, ap, sym, subst, ◌∙◌}
 use Rattle.std.specs.Option.{option_copied}
 use Rattle.mea_pool_run.specs.declared.thing.Thing.{Thing}
 use Rattle.mea_pool_run.proofs.Still.{IsNoWait, end_unknown}
-use Rattle.mea_pool_run.proofs.hall.PoolHall.end.Goals as goal
+use Rattle.mea_pool_run.proofs.named_pool.NamedPool.end.Goals as goal
 
 pub end_lease-requires-clause-asks : goal.end_lease-requires-clause-asks
 end_lease-requires-clause-asks c = (c.in-Some-Ask.field-0-0, sym c.get.ensures ∙ ap option_copied c.in-Some-Ask.is ∙ ap (λ (t : Thing). Some t) c.in-Some-Ask.field-0-is)

@@ -2,7 +2,7 @@ use Rattle.std.proofs.Common.{◌+◌, refl, arith}
 use Rattle.mea_pool_run.proofs.Events.{goes_as, below_as}
 use Rattle.mea_pool_run.proofs.Still.{makes}
 use Rattle.mea_pool_run.proofs.Things.{below_put, below_more}
-use Rattle.mea_pool_run.proofs.hall.PoolHall.make.Goals as goal
+use Rattle.mea_pool_run.proofs.named_pool.NamedPool.make.Goals as goal
 
 pub returns-clause-goes : goal.returns-clause-goes
 returns-clause-goes c =

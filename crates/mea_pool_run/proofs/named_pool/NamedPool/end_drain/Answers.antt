@@ -4,7 +4,7 @@ use Rattle.mea_pool_run.specs.declared.thing.Thing.{Thing}
 use Rattle.mea_pool_run.proofs.Events.{goes_as, below_as}
 use Rattle.mea_pool_run.proofs.Drains.{may_end_drain, ends}
 use Rattle.mea_pool_run.proofs.Things.{below_gone}
-use Rattle.mea_pool_run.proofs.hall.PoolHall.end_drain.Goals as goal
+use Rattle.mea_pool_run.proofs.named_pool.NamedPool.end_drain.Goals as goal
 
 pub remove-requires : goal.remove-requires
 remove-requires c = ap is_some c.requires.awaits.1

@@ -5,7 +5,7 @@ use Rattle.mea_pool_run.proofs.Polls.{may_poll}
 use Rattle.mea_pool_run.proofs.Events.{goes_as, below_as}
 use Rattle.mea_pool_run.proofs.Passing.{ends}
 use Rattle.mea_pool_run.proofs.Things.{below_gone}
-use Rattle.mea_pool_run.proofs.hall.PoolHall.end_lease.Goals as goal
+use Rattle.mea_pool_run.proofs.named_pool.NamedPool.end_lease.Goals as goal
 
 pub remove-requires : goal.remove-requires
 remove-requires c = ap is_some c.requires.asks.1

@@ -3,8 +3,8 @@ ghost use Rattle.std.specs.FinMap.{get};
 ghost use Rattle.mea_pool_core.specs.declared.drain_wait.DrainWait.{DrainWait as Awaiting};
 ghost use Rattle.mea_pool_core.specs.declared.lease_wait.LeaseWait.{LeaseWait as Asking};
 ghost use Rattle.mea_pool_core.specs.Shelf.{slots_below};
-ghost use Rattle.mea_pool_run.specs.Hall.{begun, made, poll_of, use_of, back_of, end_of, drained, outcome};
-ghost use Rattle.mea_pool_run.specs.Kept.{hall_of, live_of, wakers_of, Stands, AreBelow, Goes, IsNew};
+ghost use Rattle.mea_pool_run.specs.PoolByName.{begun, made, poll_of, use_of, back_of, end_of, drained, outcome};
+ghost use Rattle.mea_pool_run.specs.Kept.{pool_by_name, live_of, wakers_of, Stands, AreBelow, Goes, IsNew};
 
 use crate::event::PoolEvent;
 use crate::reply::PoolReply;
@@ -17,21 +17,21 @@ use std::alloc::Global;
 
 /// A pool of numbers, and what waits and is lent there, by name. A waker tells whose it is.
 #[derive(Drop)]
-pub struct PoolHall {
+pub struct NamedPool {
     pub(crate) pool: PoolCore<u64, NamedWaker>,
     pub(crate) things: ByName<Thing>,
 }
 
-impl PoolHall {
+impl NamedPool {
     /// A pool of so many numbers, each its own slot, and no names.
-    pub fn new(alloc: Global, size: usize) -> Result<PoolHall, NoMemory>
-        ensures state { IfOk result (λ h. hall_of h.pool h.things ≡ begun size) }
+    pub fn new(alloc: Global, size: usize) -> Result<NamedPool, NoMemory>
+        ensures state { IfOk result (λ h. pool_by_name h.pool h.things ≡ begun size) }
         ensures stands { IfOk result (λ h. Stands h.pool h.things) }
         ensures below { IfOk result (λ h. AreBelow h.things 0) }
     {
         let resources = numbered(alloc, size)?;
         match PoolCore::new(alloc, resources) {
-            Ok(pool) => Ok(PoolHall {
+            Ok(pool) => Ok(NamedPool {
                 pool,
                 things: ByName::new(alloc),
             }),
@@ -40,11 +40,11 @@ impl PoolHall {
     }
 
     /// Plays the event of the line of this number, which names what it makes.
-    #[tactic(auto, unfolding(crate::specs::Hall::outcome))]
+    #[tactic(auto, unfolding(crate::specs::PoolByName::outcome))]
     pub fn play(&mut self, number: u64, event: PoolEvent) -> Result<PoolReply, NoMemory>
         requires stands { Stands self.old.pool self.old.things }
         requires below { AreBelow self.old.things number }
-        ensures goes { IfOk result (λ reply. Goes (outcome (hall_of self.old.pool self.old.things) number event) self.new.pool self.new.things reply) }
+        ensures goes { IfOk result (λ reply. Goes (outcome (pool_by_name self.old.pool self.old.things) number event) self.new.pool self.new.things reply) }
         ensures below { OnOk result (AreBelow self.new.things (number + 1)) }
     {
         match event {
@@ -64,7 +64,7 @@ impl PoolHall {
         requires stands { Stands self.old.pool self.old.things }
         requires below { AreBelow self.old.things number }
         requires new { IsNew thing }
-        ensures goes { IfOk result (λ reply. Goes (made (hall_of self.old.pool self.old.things) number (live_of self.old.pool.granted thing)) self.new.pool self.new.things reply) }
+        ensures goes { IfOk result (λ reply. Goes (made (pool_by_name self.old.pool self.old.things) number (live_of self.old.pool.granted thing)) self.new.pool self.new.things reply) }
         ensures below { OnOk result (AreBelow self.new.things (number + 1)) }
     {
         self.things.insert(number, thing)?;
@@ -76,7 +76,7 @@ impl PoolHall {
     fn poll(&mut self, number: u64, name: u64, waker: u64) -> Result<PoolReply, NoMemory>
         requires stands { Stands self.old.pool self.old.things }
         requires below { AreBelow self.old.things number }
-        ensures goes { IfOk result (λ reply. Goes (poll_of (get (hall_of self.old.pool self.old.things).things name) (hall_of self.old.pool self.old.things) number name waker) self.new.pool self.new.things reply) }
+        ensures goes { IfOk result (λ reply. Goes (poll_of (get (pool_by_name self.old.pool self.old.things).things name) (pool_by_name self.old.pool self.old.things) number name waker) self.new.pool self.new.things reply) }
         ensures below { OnOk result (AreBelow self.new.things (number + 1)) }
     {
         let named = NamedWaker {
@@ -116,7 +116,7 @@ impl PoolHall {
     // The resource of the lease of this name, if it is one, is this value now. It takes no memory.
     fn set(&mut self, name: u64, value: u64) -> PoolReply
         requires stands { Stands self.old.pool self.old.things }
-        ensures goes { Goes (use_of (get (hall_of self.old.pool self.old.things).things name) (hall_of self.old.pool self.old.things) name value) self.new.pool self.new.things result }
+        ensures goes { Goes (use_of (get (pool_by_name self.old.pool self.old.things).things name) (pool_by_name self.old.pool self.old.things) name value) self.new.pool self.new.things result }
         ensures below { (n : ℕ) → AreBelow self.old.things n → AreBelow self.new.things n }
     {
         let Some(thing) = self.things.get_mut(name) else {
@@ -135,7 +135,7 @@ impl PoolHall {
     // Puts the lease of this name back, if it is one. It takes no memory.
     fn put_back(&mut self, name: u64) -> PoolReply
         requires stands { Stands self.old.pool self.old.things }
-        ensures goes { Goes (back_of (get (hall_of self.old.pool self.old.things).things name) (hall_of self.old.pool self.old.things) name) self.new.pool self.new.things result }
+        ensures goes { Goes (back_of (get (pool_by_name self.old.pool self.old.things).things name) (pool_by_name self.old.pool self.old.things) name) self.new.pool self.new.things result }
         ensures below { (n : ℕ) → AreBelow self.old.things n → AreBelow self.new.things n }
     {
         match self.things.get(name) {
@@ -150,7 +150,7 @@ impl PoolHall {
     fn put_lease_back(&mut self, name: u64) -> PoolReply
         requires stands { Stands self.old.pool self.old.things }
         requires out { (lease : ℕ × ℕ) × (get self.old.things name ≡ Some (Thing.Held lease)) }
-        ensures goes { Goes (back_of (get (hall_of self.old.pool self.old.things).things name) (hall_of self.old.pool self.old.things) name) self.new.pool self.new.things result }
+        ensures goes { Goes (back_of (get (pool_by_name self.old.pool self.old.things).things name) (pool_by_name self.old.pool self.old.things) name) self.new.pool self.new.things result }
         ensures below { (n : ℕ) → AreBelow self.old.things n → AreBelow self.new.things n }
     {
         let Thing::Held(lease) = self.things.remove(name) else {
@@ -163,7 +163,7 @@ impl PoolHall {
     // Ends the wait of this name, if it is one. It takes no memory.
     fn end(&mut self, name: u64) -> PoolReply
         requires stands { Stands self.old.pool self.old.things }
-        ensures goes { Goes (end_of (get (hall_of self.old.pool self.old.things).things name) (hall_of self.old.pool self.old.things) name) self.new.pool self.new.things result }
+        ensures goes { Goes (end_of (get (pool_by_name self.old.pool self.old.things).things name) (pool_by_name self.old.pool self.old.things) name) self.new.pool self.new.things result }
         ensures below { (n : ℕ) → AreBelow self.old.things n → AreBelow self.new.things n }
     {
         match self.things.get(name) {
@@ -178,7 +178,7 @@ impl PoolHall {
     fn end_lease(&mut self, name: u64) -> PoolReply
         requires stands { Stands self.old.pool self.old.things }
         requires asks { (wait : Asking) × (get self.old.things name ≡ Some (Thing.Ask wait)) }
-        ensures goes { Goes (end_of (get (hall_of self.old.pool self.old.things).things name) (hall_of self.old.pool self.old.things) name) self.new.pool self.new.things result }
+        ensures goes { Goes (end_of (get (pool_by_name self.old.pool self.old.things).things name) (pool_by_name self.old.pool self.old.things) name) self.new.pool self.new.things result }
         ensures below { (n : ℕ) → AreBelow self.old.things n → AreBelow self.new.things n }
     {
         let Thing::Ask(wait) = self.things.remove(name) else {
@@ -192,7 +192,7 @@ impl PoolHall {
     fn end_drain(&mut self, name: u64) -> PoolReply
         requires stands { Stands self.old.pool self.old.things }
         requires awaits { (wait : Awaiting) × (get self.old.things name ≡ Some (Thing.Wait wait)) }
-        ensures goes { Goes (end_of (get (hall_of self.old.pool self.old.things).things name) (hall_of self.old.pool self.old.things) name) self.new.pool self.new.things result }
+        ensures goes { Goes (end_of (get (pool_by_name self.old.pool self.old.things).things name) (pool_by_name self.old.pool self.old.things) name) self.new.pool self.new.things result }
         ensures below { (n : ℕ) → AreBelow self.old.things n → AreBelow self.new.things n }
     {
         let Thing::Wait(wait) = self.things.remove(name) else {
@@ -205,7 +205,7 @@ impl PoolHall {
     // No more is lent. It takes no memory.
     fn drain(&mut self) -> PoolReply
         requires stands { Stands self.old.pool self.old.things }
-        ensures goes { Goes (drained (hall_of self.old.pool self.old.things)) self.new.pool self.new.things result }
+        ensures goes { Goes (drained (pool_by_name self.old.pool self.old.things)) self.new.pool self.new.things result }
         ensures same { self.new.things ≡ self.old.things }
     {
         self.pool.drain();

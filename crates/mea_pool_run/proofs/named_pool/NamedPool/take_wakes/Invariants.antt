@@ -2,7 +2,7 @@ use Rattle.std.proofs.Common.{◌≡◌, ◌++◌, ℕ, [], length}
 use Rattle.mea_by_name.specs.declared.named_waker.NamedWaker.{NamedWaker}
 use Rattle.mea_pool_core.specs.Pool.{Pool}
 use Rattle.mea_pool_run.specs.Kept.{wakers_of}
-use Rattle.mea_pool_run.proofs.hall.PoolHall.take_wakes.Given as goal
+use Rattle.mea_pool_run.proofs.named_pool.NamedPool.take_wakes.Given as goal
 
 -- what was taken and what is still there are what there was
 abbrev pub invariant-loop-named : goal.invariant-loop-named

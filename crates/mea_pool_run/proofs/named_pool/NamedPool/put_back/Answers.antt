@@ -2,7 +2,7 @@ use Rattle.std.proofs.Common.{Some, ap, sym, subst, ◌∙◌}
 use Rattle.std.specs.Option.{option_copied}
 use Rattle.mea_pool_run.specs.declared.thing.Thing.{Thing}
 use Rattle.mea_pool_run.proofs.Still.{IsNoLease, back_unknown}
-use Rattle.mea_pool_run.proofs.hall.PoolHall.put_back.Goals as goal
+use Rattle.mea_pool_run.proofs.named_pool.NamedPool.put_back.Goals as goal
 
 pub put_lease_back-requires-clause-out : goal.put_lease_back-requires-clause-out
 put_lease_back-requires-clause-out c = (c.in-Some-Held.field-0-0, sym c.get.ensures ∙ ap option_copied c.in-Some-Held.is ∙ ap (λ (t : Thing). Some t) c.in-Some-Held.field-0-is)

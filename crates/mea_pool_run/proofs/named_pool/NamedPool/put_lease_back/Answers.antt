@@ -5,7 +5,7 @@ use Rattle.mea_pool_run.specs.Kept.{held}
 use Rattle.mea_pool_run.proofs.Events.{goes_as, below_as}
 use Rattle.mea_pool_run.proofs.Passing.{comes_back_to}
 use Rattle.mea_pool_run.proofs.Things.{below_gone}
-use Rattle.mea_pool_run.proofs.hall.PoolHall.put_lease_back.Goals as goal
+use Rattle.mea_pool_run.proofs.named_pool.NamedPool.put_lease_back.Goals as goal
 
 pub remove-requires : goal.remove-requires
 remove-requires c = ap is_some c.requires.out.1

@@ -6,7 +6,7 @@ use Rattle.mea_pool_run.specs.declared.thing.Thing.TheVariants.{Held}
 use Rattle.mea_pool_run.proofs.Events.{goes_as, below_as}
 use Rattle.mea_pool_run.proofs.Still.{IsNoLease, use_unknown, sets}
 use Rattle.mea_pool_run.proofs.Things.{below_stays}
-use Rattle.mea_pool_run.proofs.hall.PoolHall.set.Goals as goal
+use Rattle.mea_pool_run.proofs.named_pool.NamedPool.set.Goals as goal
 
 pub returns-in-Held-clause-goes : goal.returns-in-Held-clause-goes
 returns-in-Held-clause-goes c = sets c.args.self.now.pool c.args.self.now.things c.requires.stands c.args.name c.args.value c.in-Held.lease (sym c.get_mut.ensures.value ∙ ap option_copied_mut c.in-Some.is ∙ ap (λ (t : Thing). Some t) c.in-Held.is)
