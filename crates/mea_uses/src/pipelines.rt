@@ -5,8 +5,8 @@ use futures::future::{Either, join, pending, ready, select};
 use futures::stream::iter;
 use futures::{Future, StreamExt};
 use mea::mpsc::bounded;
-use mea::semaphore::{Closed, OwnedAcquire, OwnedSemaphorePermit, Semaphore};
-use mea_futures::{Bell, Feeding, Kept, Receives, Receiving, TryHolding, feed, receive, wait};
+use mea::semaphore::Semaphore;
+use mea_futures::{Acquiring, Bell, Feeding, Kept, Receives, Receiving, feed, receive, wait};
 use std::alloc::AllocGlobal;
 use std::io;
 use std::process::Abort;
@@ -36,9 +36,6 @@ fn sum<R: Wait + RandomSource + AllocGlobal, C: Receives<u64>>(
     let (_sink, sum) = block_on(rt, join(sends, adds))?;
     Ok(sum)
 }
-
-// A wait for a permit, as a task holds it.
-type Acquiring<'a, R> = TryHolding<'a, R, OwnedAcquire<Bell>, OwnedSemaphorePermit<Bell>, Closed>;
 
 // A wait for one permit, which owns a share of its semaphore.
 fn acquire<'a, R: Wait + AllocGlobal + Abort>(
