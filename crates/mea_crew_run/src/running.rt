@@ -38,6 +38,8 @@ pub fn run_crew<R: Threads + Wait + Sync, K: Sink>(
 ) -> CrewStatus
     ensures usage { (result ≡ CrewStatus.Usage) ↔ (¬ IsCommand (map string_bytes words.now)) }
     ensures untouched { result ≡ CrewStatus.Usage → sink.new ≡ sink.old }
+    ensures mismatch { result ≡ CrewStatus.Mismatch → sink.new ≡ sink.old }
+    ensures refused { result ≡ CrewStatus.Refused → sink.new ≡ sink.old }
     ensures write_fault { result ≡ CrewStatus.WriteFault → Rose (K.faults sink.old) (K.faults sink.new) }
 
     // Where the sink tells its bytes: all four lines, or where there was a fault a front of them, or nothing.
@@ -75,6 +77,8 @@ fn play<R: Threads + Wait + Sync, K: Sink>(
     requires workers { (1 ≤ workers) × (workers ≤ 8) }
     requires rounds { rounds ≤ 10000 }
     ensures usage { result ≢ CrewStatus.Usage }
+    ensures mismatch { result ≡ CrewStatus.Mismatch → sink.new ≡ sink.old }
+    ensures refused { result ≡ CrewStatus.Refused → sink.new ≡ sink.old }
     ensures write_fault { result ≡ CrewStatus.WriteFault → Rose (K.faults sink.old) (K.faults sink.new) }
     ensures done { (before : List ℕ) → K.taken sink.old ≡ Some before → result ≡ CrewStatus.Done
         → (h : History) × IsOfCrew workers rounds h × HasWritten (text_of h) before (K.taken sink.new) }

@@ -35,6 +35,7 @@ pub fn run_named<R: Threads + Wait + Sync, K: Sink>(
     ensures untouched { result ≡ NamedStatus.Usage → sink.new ≡ sink.old }
     ensures write_fault { result ≡ NamedStatus.WriteFault → Rose (K.faults sink.old) (K.faults sink.new) }
     ensures missing { (m : Missing) → result ≡ NamedStatus.Missing m → IsMissing m }
+    ensures unwritten { (m : Missing) → result ≡ NamedStatus.Missing m → sink.new ≡ sink.old }
 
     // Where the sink tells its bytes: all three lines, or with any other status a front of them, which may be nothing.
     ensures done { (workers rounds : ℕ) (before : List ℕ) → IsNamed (map string_bytes words.now) workers rounds → K.taken sink.old ≡ Some before → result ≡ NamedStatus.Done
@@ -72,6 +73,7 @@ fn play<R: Threads + Wait + Sync, K: Sink>(
     ensures usage { result ≢ NamedStatus.Usage }
     ensures write_fault { result ≡ NamedStatus.WriteFault → Rose (K.faults sink.old) (K.faults sink.new) }
     ensures missing { (m : Missing) → result ≡ NamedStatus.Missing m → IsMissing m }
+    ensures unwritten { (m : Missing) → result ≡ NamedStatus.Missing m → sink.new ≡ sink.old }
     ensures done { (before : List ℕ) → K.taken sink.old ≡ Some before → result ≡ NamedStatus.Done
         → (counts : Counts) × IsGathered workers counts × HasWritten (text_of counts) before (K.taken sink.new) }
     ensures part { (before : List ℕ) → K.taken sink.old ≡ Some before
