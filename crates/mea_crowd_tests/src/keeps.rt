@@ -1,36 +1,30 @@
 //! Those of the crowd who want a value that is computed once.
-ghost use Rattle.std.specs.Prelude.{◌≡◌, None, IsSomeAnd};
-
 use crate::crowd::{Member, Tasks};
+use crate::keyed::{
+    Flies, Flights, Map, Maps, drop_flies, drop_maps, flying, mapping, poll_flies, poll_maps,
+};
 use crate::patience::Patience;
 use crate::spawns::{Tally, kind, spawn};
-use crate::tasks::{Awaits, Computes};
+use crate::tasks::{Inits, computing, drop_inits, poll_inits};
 use futures::Future;
 use futures::task::{Context, Poll};
 use futures::test::MockTask;
-use mea::once::{
-    CellClaim, CellClaiming, MapClaim, MapClaiming, MapFilling, Once, OnceCell, OnceClaim,
-    OnceClaiming, OnceMap,
-};
-use mea::singleflight::{Group, GroupClaim, GroupClaiming, GroupFilling};
-use mea::{Claim, Claimed, End, ReadyValue, Waits};
-use mea_futures::{Bell, Initialising, initialise, wait};
+use mea::once::{CellClaim, CellClaiming, Once, OnceCell, OnceClaim, OnceClaiming};
+use mea::{Claimed, End, ReadyValue, Waits};
+use mea_futures::{Bell, wait};
 use std::alloc::{AllocGlobal, Global};
-use std::hash::{BuildHasherDefault, FoldHasher};
 use std::process::Abort;
 use std::sync::Wait;
 use std::sync::atomic::AtomicU64;
 use std::sync::atomic::Ordering::SeqCst;
-
-type Hasher = BuildHasherDefault<FoldHasher>;
 
 /// What they share.
 #[derive(Drop)]
 pub(crate) struct Keeps {
     cell: OnceCell<u64, Bell>,
     once: Once<Bell>,
-    map: OnceMap<u64, u64, Hasher, Bell>,
-    flights: Group<u64, u64, Hasher, Bell>,
+    map: Map,
+    flights: Flights,
     filled: AtomicU64,
     called: AtomicU64,
     mapped: AtomicU64,
@@ -43,8 +37,8 @@ impl Keeps {
         Keeps {
             cell: OnceCell::new(alloc),
             once: Once::new(alloc),
-            map: OnceMap::new(alloc),
-            flights: Group::new(alloc),
+            map: Map::new(alloc),
+            flights: Flights::new(alloc),
             filled: AtomicU64::new(0),
             called: AtomicU64::new(0),
             mapped: AtomicU64::new(0),
@@ -99,9 +93,6 @@ fn has_turn<'a, R: Wait + AllocGlobal + 'a, F: Waits<Bell, Claimed<V, C>>, V: Dr
     }
 }
 
-// A task that waits for a value, and computes it where nobody else does.
-type Inits<'a, R, F, V, C, T, G> = Awaits<Initialising<'a, R, F, V, C, T, G, Computes<'a, T>>>;
-
 /// One that waits for the value of the cell.
 pub(crate) type Fills<'a, R> = Inits<
     'a,
@@ -124,35 +115,23 @@ pub(crate) type Calls<'a, R> = Inits<
     ReadyValue<()>,
 >;
 
-/// One that waits for the value of a key.
-pub(crate) type Maps<'a, R> = Inits<
-    'a,
-    R,
-    MapClaiming<'a, u64, u64, Hasher, Bell>,
-    u64,
-    MapClaim<'a, u64, u64, Hasher, Bell>,
-    u64,
-    MapFilling<'a, u64, u64, Hasher, Bell>,
->;
-
-/// One that waits for a value which those who come meanwhile share.
-pub(crate) type Flies<'a, R> = Inits<
-    'a,
-    R,
-    GroupClaiming<'a, u64, u64, Hasher, Bell>,
-    u64,
-    GroupClaim<'a, u64, u64, Hasher, Bell>,
-    u64,
-    GroupFilling<'a, u64, u64, Hasher, Bell>,
->;
-
 /// A task that waits for what is computed once.
-#[derive(Drop)]
 pub(crate) enum KeepMember<'a, R: Wait> {
     Fills(Fills<'a, R>),
     Calls(Calls<'a, R>),
     Maps(Maps<'a, R>),
     Flies(Flies<'a, R>),
+}
+
+impl<'a, R: Wait> Drop for KeepMember<'a, R> {
+    fn drop(self) {
+        match self {
+            KeepMember::Fills(task) => drop_inits(task),
+            KeepMember::Calls(task) => drop_inits(task),
+            KeepMember::Maps(task) => drop_maps(task),
+            KeepMember::Flies(task) => drop_flies(task),
+        }
+    }
 }
 
 impl<'a, R: Wait> Future for KeepMember<'a, R> {
@@ -165,30 +144,12 @@ impl<'a, R: Wait> Future for KeepMember<'a, R> {
 
     fn poll(&mut self, cx: &mut Context<'_>) -> Poll<()> {
         match self {
-            KeepMember::Fills(task) => task.poll(cx),
-            KeepMember::Calls(task) => task.poll(cx),
-            KeepMember::Maps(task) => task.poll(cx),
-            KeepMember::Flies(task) => task.poll(cx),
+            KeepMember::Fills(task) => poll_inits(task, cx),
+            KeepMember::Calls(task) => poll_inits(task, cx),
+            KeepMember::Maps(task) => poll_maps(task, cx),
+            KeepMember::Flies(task) => poll_flies(task, cx),
         }
     }
-}
-
-// A task that waits for a claim, or computes the value in two polls, and was never polled.
-fn computing<
-    'a,
-    R: Wait + AllocGlobal + Abort,
-    F: Waits<Bell, Claimed<V, C>>,
-    V,
-    C: Claim<T, V, G>,
-    T: Copy,
-    G: End,
->(rt: &'a R, claiming: F, value: T, computed: &'a AtomicU64) -> Inits<'a, R, F, V, C, T, G>
-    requires { F.can_poll claiming }
-    ensures { (result.awaited.claim ≡ None) × IsSomeAnd result.awaited.turn.wait F.can_poll }
-{
-    let computes = Computes::new(value, computed);
-    let awaited = initialise(rt, rt.alloc(), claiming, computes).expect(rt, "memory");
-    Awaits { awaited }
 }
 
 /// Spawns the task with this number, that was never polled: of one of four kinds.
@@ -205,8 +166,8 @@ pub(crate) fn spawn_keep<'a, R: Wait + AllocGlobal + Abort>(
     let task = match kind {
         14 => KeepMember::Fills(computing(rt, keeps.cell.claim(), 9, &keeps.filled)),
         15 => KeepMember::Calls(computing(rt, keeps.once.claim(), (), &keeps.called)),
-        16 => KeepMember::Maps(computing(rt, keeps.map.claim(key), key, &keeps.mapped)),
-        _ => KeepMember::Flies(computing(rt, keeps.flights.claim(key), key, &keeps.flown)),
+        16 => KeepMember::Maps(mapping(rt, &keeps.map, key, &keeps.mapped)),
+        _ => KeepMember::Flies(flying(rt, &keeps.flights, key, &keeps.flown)),
     };
     spawn(rt, tasks, tally, Member::Keeps(task), patience);
 }

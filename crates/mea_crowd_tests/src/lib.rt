@@ -11,6 +11,8 @@ mod hearing;
 #[cfg(test)]
 mod keeps;
 #[cfg(test)]
+mod keyed;
+#[cfg(test)]
 mod locks;
 #[cfg(test)]
 mod meets;

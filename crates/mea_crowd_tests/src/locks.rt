@@ -5,7 +5,7 @@ use crate::crowd::{Member, Tasks};
 use crate::hearing::{Hears, Tells};
 use crate::patience::Patience;
 use crate::spawns::{Tally, kind, spawn};
-use crate::tasks::{Spends, share, using};
+use crate::tasks::{Spends, poll_spends, share, using};
 use futures::task::{Context, Poll};
 use futures::{Future, ready};
 use mea::admission::{FairShare, OwnedFairSharePermit, OwnedShareWait};
@@ -228,10 +228,10 @@ impl<'a, R: Wait + AllocGlobal + Abort> Future for LockMember<'a, R> {
     fn poll(&mut self, cx: &mut Context<'_>) -> Poll<()> {
         match self {
             LockMember::Acquires(task) => task.poll(cx),
-            LockMember::Admits(task) => task.poll(cx),
+            LockMember::Admits(task) => poll_spends(task, cx),
             LockMember::Adds(task) => task.poll(cx),
-            LockMember::Reads(task) => task.poll(cx),
-            LockMember::Writes(task) => task.poll(cx),
+            LockMember::Reads(task) => poll_spends(task, cx),
+            LockMember::Writes(task) => poll_spends(task, cx),
             LockMember::Hears(task) => task.poll(cx),
             LockMember::Tells(task) => task.poll(cx),
         }
