@@ -1,5 +1,3 @@
-ghost use Rattle.std.specs.Prelude.{◌≡◌, cond};
-
 use crate::ledger::Ledger;
 
 /// The reply to an event, without its wakes: one variant for each thing that an event of any family
@@ -60,11 +58,4 @@ pub enum Answer {
     Lagged(u64),
     /// `ledger` and its seven numbers.
     Account(Ledger),
-}
-
-/// The answer to a question: `yes` where this holds, and `no` where it does not.
-pub fn yes_if(holds: bool) -> Answer
-    ensures { result ≡ cond holds Answer.Yes Answer.No }
-{
-    if holds { Answer::Yes } else { Answer::No }
 }

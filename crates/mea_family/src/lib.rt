@@ -7,10 +7,12 @@ mod answer;
 mod counts;
 mod form;
 mod ledger;
+mod reply;
 mod stop;
 
-pub use answer::{Answer, yes_if};
+pub use answer::Answer;
 pub use counts::one_if;
 pub use form::Form;
 pub use ledger::Ledger;
+pub use reply::{Reply, Word, yes_if};
 pub use stop::{Stop, borrowed_if, overflow_if, unknown_unless, zero_if};

@@ -2,7 +2,7 @@ ghost use Rattle.std.specs.Prelude.{◌≡◌, ◌≢◌, ◌+◌, ◌≤◌, �
 ghost use Rattle.mea_family.specs.Play.{PartYields};
 
 use mea_base::Ready;
-use mea_family::{Answer, Stop};
+use mea_family::{Reply, Stop};
 use std::alloc::Global;
 
 /// The objects of a family by name. It keeps no list of wakers: each event is lent the list into which it makes wakers
@@ -51,7 +51,7 @@ pub trait Family<H>: Drop {
         number: u64,
         event: &Self::Event,
         ready: &mut Ready<u64>,
-    ) -> Result<Answer, Stop>
+    ) -> Result<Reply, Stop>
         requires next { (part_of self.old).next ≤ number }
         requires room { registered (part_of self.old).hall ≤ ready.old.registered }
         ensures played { IfOk result (λ answer. PartYields registered (part_of self.old) number (step (part_of self.old).hall number event.now) answer (part_of self.new) ready.old ready.new) }

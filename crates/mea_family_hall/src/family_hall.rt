@@ -3,7 +3,7 @@ ghost use Rattle.mea_family.specs.Play.{Play, Yields};
 
 use crate::family::Family;
 use mea_base::Ready;
-use mea_family::{Answer, Stop};
+use mea_family::{Reply, Stop};
 use std::alloc::Global;
 use std::marker::{Model, PhantomData};
 
@@ -98,7 +98,7 @@ impl<F: Family<H>, H> FamilyHall<F, H> {
     /// Plays an event, whose number is greater than each that was played before; the wakers that it makes ready are
     /// appended to those that are. A cause for refusal comes before want of memory; where the event is refused,
     /// nothing has changed.
-    pub fn act(&mut self, number: u64, event: &F::Event) -> Result<Answer, Stop>
+    pub fn act(&mut self, number: u64, event: &F::Event) -> Result<Reply, Stop>
         requires { self.old.next ≤ number }
         ensures played { IfOk result (λ reply. Yields self.old number (F.step self.old.hall number event.now) reply self.new) }
         ensures allowed { OnOk result (F.cause_of self.old.hall event.now ≡ None) }
@@ -107,8 +107,8 @@ impl<F: Family<H>, H> FamilyHall<F, H> {
         ensures no_memory { F.TakesNoMemory event.now → result ≢ Err Stop.NoMemory }
         ensures err { OnErr result (self.new ≡ self.old) }
     {
-        let answer = self.family.act(number, event, &mut self.ready)?;
+        let reply = self.family.act(number, event, &mut self.ready)?;
         self.family.is_valid();
-        Ok(answer)
+        Ok(reply)
     }
 }
