@@ -110,6 +110,7 @@ impl<X> Roomy<X> {
         ensures room { OnOk result (more ≤ self.new.spare) }
         ensures grows { self.old.spare ≤ self.new.spare }
         ensures things { self.new.things ≡ self.old.things }
+        ensures succeeds { more ≤ self.old.spare → IsOk result }
     {
         match self.map.reserve(more) {
             Ok(()) => Ok(()),

@@ -17,7 +17,7 @@ use mea_base::{Poll, Ready};
 use mea_by_name::{ByName, NamedWaker};
 use mea_chan_core::{BoundedCore, SendError, TrySendError};
 use mea_chan_model::BoundedAction;
-use mea_family::{Answer, Stop, borrowed_if, overflow_if, unknown_unless, zero_if};
+use mea_family::{Reply, Stop, Word, borrowed_if, overflow_if, unknown_unless, zero_if};
 use std::alloc::Global;
 use std::marker::Model;
 
@@ -106,7 +106,7 @@ impl BoundedPart {
         number: u64,
         action: BoundedAction,
         ready: &mut Ready<u64>,
-    ) -> Result<Answer, Stop>
+    ) -> Result<Reply, Stop>
         requires next { self.old.next ≤ number }
         requires room { registered self.old.hall ≤ ready.old.registered }
         ensures { BoundedActs self.old number action result self.new ready.old ready.new }
@@ -167,7 +167,7 @@ impl BoundedPart {
     }
 
     // Makes a channel with room for `capacity` messages, with a sender and a receiver. On an error nothing has changed.
-    fn make(&mut self, number: u64, capacity: u64, ready: &mut Ready<u64>) -> Result<Answer, Stop>
+    fn make(&mut self, number: u64, capacity: u64, ready: &mut Ready<u64>) -> Result<Reply, Stop>
         requires next { self.old.next ≤ number }
         ensures { BoundedActs self.old number (MakeRoom capacity) result self.new ready.old ready.new }
     {
@@ -187,7 +187,7 @@ impl BoundedPart {
         entry: BoundedEntry,
         capacity: u64,
         ready: &mut Ready<u64>,
-    ) -> Result<Answer, Stop>
+    ) -> Result<Reply, Stop>
         requires next { self.old.next ≤ number }
         requires some { 0 < capacity }
         requires new { entry ≡ record { queued = []; capacity = capacity; senders = 1; ended = false; waker = None; waiting = no_senders; wakes = [] } }
@@ -216,11 +216,11 @@ impl BoundedPart {
             return Err(Stop::NoMemory);
         };
         self.next = number as u128 + 1;
-        Ok(Answer::Made)
+        Ok(Reply(Word::Made))
     }
 
     // Makes a further sender. On an error nothing has changed.
-    fn copy(&mut self, number: u64, s: u64, ready: &mut Ready<u64>) -> Result<Answer, Stop>
+    fn copy(&mut self, number: u64, s: u64, ready: &mut Ready<u64>) -> Result<Reply, Stop>
         requires next { self.old.next ≤ number }
         ensures { BoundedActs self.old number (CopySender s) result self.new ready.old ready.new }
     {
@@ -238,7 +238,7 @@ impl BoundedPart {
         };
         self.channels.at_mut(channel).add_sender();
         self.next = number as u128 + 1;
-        Ok(Answer::Made)
+        Ok(Reply(Word::Made))
     }
 
     // Sends a message, where there is a place for it. It takes no memory.
@@ -248,7 +248,7 @@ impl BoundedPart {
         s: u64,
         message: u64,
         ready: &mut Ready<u64>,
-    ) -> Result<Answer, Stop>
+    ) -> Result<Reply, Stop>
         requires next { self.old.next ≤ number }
         requires room { registered self.old.hall ≤ ready.old.registered }
         ensures { BoundedActs self.old number (TrySend s message) result self.new ready.old ready.new }
@@ -271,7 +271,7 @@ impl BoundedPart {
         s: u64,
         message: u64,
         ready: &mut Ready<u64>,
-    ) -> Result<Answer, Stop>
+    ) -> Result<Reply, Stop>
         requires next { self.old.next ≤ number }
         ensures { BoundedActs self.old number (BeginSend s message) result self.new ready.old ready.new }
     {
@@ -286,7 +286,7 @@ impl BoundedPart {
         };
         sender.sends += 1;
         self.next = number as u128 + 1;
-        Ok(Answer::Made)
+        Ok(Reply(Word::Made))
     }
 
     // Polls a send. On an error nothing has changed.
@@ -296,7 +296,7 @@ impl BoundedPart {
         f: u64,
         waker: u64,
         ready: &mut Ready<u64>,
-    ) -> Result<Answer, Stop>
+    ) -> Result<Reply, Stop>
         requires next { self.old.next ≤ number }
         requires room { registered self.old.hall ≤ ready.old.registered }
         ensures { BoundedActs self.old number (PollSend f waker) result self.new ready.old ready.new }
@@ -311,7 +311,7 @@ impl BoundedPart {
         };
         self.next = number as u128 + 1;
         match turn {
-            Poll::Pending => Ok(Answer::Pending),
+            Poll::Pending => Ok(Reply(Word::Pending)),
             Poll::Ready(sent) => {
                 let _ = self.sends.remove(f);
                 self.senders.at_mut(s).sends -= 1;
@@ -321,7 +321,7 @@ impl BoundedPart {
     }
 
     // Ends a send. It takes no memory.
-    fn end_send(&mut self, number: u64, f: u64, ready: &mut Ready<u64>) -> Result<Answer, Stop>
+    fn end_send(&mut self, number: u64, f: u64, ready: &mut Ready<u64>) -> Result<Reply, Stop>
         requires next { self.old.next ≤ number }
         requires room { registered self.old.hall ≤ ready.old.registered }
         ensures { BoundedActs self.old number (EndSend f) result self.new ready.old ready.new }
@@ -333,11 +333,11 @@ impl BoundedPart {
         self.channels.at_mut(send.channel()).end_send(send, ready);
         self.senders.at_mut(s).sends -= 1;
         self.next = number as u128 + 1;
-        Ok(Answer::Done)
+        Ok(Reply(Word::Done))
     }
 
     // Takes the first message of a receiver. It takes no memory.
-    fn receive(&mut self, number: u64, r: u64, ready: &mut Ready<u64>) -> Result<Answer, Stop>
+    fn receive(&mut self, number: u64, r: u64, ready: &mut Ready<u64>) -> Result<Reply, Stop>
         requires next { self.old.next ≤ number }
         requires room { registered self.old.hall ≤ ready.old.registered }
         ensures { BoundedActs self.old number (TryReceive r) result self.new ready.old ready.new }
@@ -357,7 +357,7 @@ impl BoundedPart {
         r: u64,
         waker: u64,
         ready: &mut Ready<u64>,
-    ) -> Result<Answer, Stop>
+    ) -> Result<Reply, Stop>
         requires next { self.old.next ≤ number }
         requires room { registered self.old.hall ≤ ready.old.registered }
         ensures { BoundedActs self.old number (PollReceive r waker) result self.new ready.old ready.new }
@@ -374,7 +374,7 @@ impl BoundedPart {
     }
 
     // Ends a sender, which has no send. It takes no memory.
-    fn end_sender(&mut self, number: u64, s: u64, ready: &mut Ready<u64>) -> Result<Answer, Stop>
+    fn end_sender(&mut self, number: u64, s: u64, ready: &mut Ready<u64>) -> Result<Reply, Stop>
         requires next { self.old.next ≤ number }
         requires room { registered self.old.hall ≤ ready.old.registered }
         ensures { BoundedActs self.old number (DropSender s) result self.new ready.old ready.new }
@@ -388,11 +388,11 @@ impl BoundedPart {
         let over = entry.is_over();
         self.channels.remove_if(o, over);
         self.next = number as u128 + 1;
-        Ok(Answer::Done)
+        Ok(Reply(Word::Done))
     }
 
     // Ends a receiver. It takes no memory.
-    fn end_receiver(&mut self, number: u64, r: u64, ready: &mut Ready<u64>) -> Result<Answer, Stop>
+    fn end_receiver(&mut self, number: u64, r: u64, ready: &mut Ready<u64>) -> Result<Reply, Stop>
         requires next { self.old.next ≤ number }
         requires room { registered self.old.hall ≤ ready.old.registered }
         ensures { BoundedActs self.old number (DropReceiver r) result self.new ready.old ready.new }
@@ -407,27 +407,27 @@ impl BoundedPart {
         let over = entry.is_over();
         self.channels.remove_if(o, over);
         self.next = number as u128 + 1;
-        Ok(Answer::Done)
+        Ok(Reply(Word::Done))
     }
 }
 
 // What a script is told of a message that was tried.
-fn tried_told(sent: Result<(), TrySendError<u64>>) -> Answer
+fn tried_told(sent: Result<(), TrySendError<u64>>) -> Reply
     ensures { result ≡ tried_told sent }
 {
     match sent {
-        Ok(()) => Answer::Accepted,
-        Err(TrySendError::Full(message)) => Answer::Full(message),
-        Err(TrySendError::Disconnected(message)) => Answer::Closed(message),
+        Ok(()) => Reply(Word::Accepted),
+        Err(TrySendError::Full(message)) => Reply(Word::Full(message)),
+        Err(TrySendError::Disconnected(message)) => Reply(Word::Closed(message)),
     }
 }
 
 // What a script is told of a send that has its answer.
-fn ready_told(sent: Result<(), SendError<u64>>) -> Answer
+fn ready_told(sent: Result<(), SendError<u64>>) -> Reply
     ensures { result ≡ ready_told sent }
 {
     match sent {
-        Ok(()) => Answer::Accepted,
-        Err(refused) => Answer::Closed(refused.0),
+        Ok(()) => Reply(Word::Accepted),
+        Err(refused) => Reply(Word::Closed(refused.0)),
     }
 }

@@ -9,7 +9,7 @@ use crate::box_core::BoxedCore;
 use mea_base::NoMemory;
 use mea_by_name::ByName;
 use mea_chan_model::BoxAction;
-use mea_family::{Answer, Stop, unknown_unless};
+use mea_family::{Reply, Stop, Word, unknown_unless};
 use std::alloc::Global;
 use std::marker::Model;
 
@@ -117,7 +117,7 @@ impl<C: BoxedCore> BoxPart<C> {
     }
 
     /// Does an action, or finds why it is refused. On an error nothing has changed.
-    pub fn act(&mut self, number: u64, action: BoxAction) -> Result<Answer, Stop>
+    pub fn act(&mut self, number: u64, action: BoxAction) -> Result<Reply, Stop>
         requires { C.is_full ≡ true → FitsBox action }
         ensures { BoxActs self.old number action result self.new }
     {
@@ -132,7 +132,7 @@ impl<C: BoxedCore> BoxPart<C> {
     }
 
     // Makes a box. On an error nothing has changed.
-    fn make(&mut self, number: u64, content: Option<u64>) -> Result<Answer, Stop>
+    fn make(&mut self, number: u64, content: Option<u64>) -> Result<Reply, Stop>
         requires { C.is_full ≡ true → IsSome content }
         ensures { BoxActs self.old number (MakeBox content) result self.new }
     {
@@ -142,12 +142,12 @@ impl<C: BoxedCore> BoxPart<C> {
         let Ok(()) = self.boxes.insert(number, entry) else {
             return Err(Stop::NoMemory);
         };
-        Ok(Answer::Made)
+        Ok(Reply(Word::Made))
     }
 
     // Puts another content in, and tells the one before. It takes memory for a value alone. On an error nothing has
     // changed.
-    fn swap(&mut self, number: u64, b: u64, content: Option<u64>) -> Result<Answer, Stop>
+    fn swap(&mut self, number: u64, b: u64, content: Option<u64>) -> Result<Reply, Stop>
         requires { C.is_full ≡ true → IsSome content }
         ensures { BoxActs self.old number (Swap b content) result self.new }
     {
@@ -161,7 +161,7 @@ impl<C: BoxedCore> BoxPart<C> {
     }
 
     // Puts another content in. It takes memory for a value alone. On an error nothing has changed.
-    fn store(&mut self, number: u64, b: u64, content: Option<u64>) -> Result<Answer, Stop>
+    fn store(&mut self, number: u64, b: u64, content: Option<u64>) -> Result<Reply, Stop>
         requires { C.is_full ≡ true → IsSome content }
         ensures { BoxActs self.old number (Store b content) result self.new }
     {
@@ -171,11 +171,11 @@ impl<C: BoxedCore> BoxPart<C> {
         let Ok(_) = entry.swap(self.alloc, content) else {
             return Err(Stop::NoMemory);
         };
-        Ok(Answer::Done)
+        Ok(Reply(Word::Done))
     }
 
     // Tells the content. It takes no memory.
-    fn tell(&mut self, number: u64, b: u64) -> Result<Answer, Stop>
+    fn tell(&mut self, number: u64, b: u64) -> Result<Reply, Stop>
         ensures { BoxActs self.old number (Tell b) result self.new }
     {
         let Some(entry) = self.boxes.get(b) else {
@@ -185,7 +185,7 @@ impl<C: BoxedCore> BoxPart<C> {
     }
 
     // Tells the content; the box is gone. It takes no memory.
-    fn take(&mut self, number: u64, b: u64) -> Result<Answer, Stop>
+    fn take(&mut self, number: u64, b: u64) -> Result<Reply, Stop>
         ensures { BoxActs self.old number (TakeOut b) result self.new }
     {
         let Some(entry) = self.boxes.take(b) else {
@@ -195,21 +195,21 @@ impl<C: BoxedCore> BoxPart<C> {
     }
 
     // Drops a box. It takes no memory.
-    fn end(&mut self, number: u64, b: u64) -> Result<Answer, Stop>
+    fn end(&mut self, number: u64, b: u64) -> Result<Reply, Stop>
         ensures { BoxActs self.old number (DropBox b) result self.new }
     {
         let Some(_entry) = self.boxes.take(b) else {
             return Err(Stop::Unknown);
         };
-        Ok(Answer::Done)
+        Ok(Reply(Word::Done))
     }
 }
 
-fn told(content: Option<u64>) -> Answer
+fn told(content: Option<u64>) -> Reply
     ensures { result ≡ content_told content }
 {
     match content {
-        Some(value) => Answer::Value(value),
-        None => Answer::Lacking,
+        Some(value) => Reply(Word::Value(value)),
+        None => Reply(Word::Lacking),
     }
 }

@@ -6,7 +6,7 @@ ghost use Rattle.mea_chan.specs.Entries.{kept, told, Settles, Polls};
 use crate::mailbox_core::{MailboxCore, SharedCore, SingleCore};
 use crate::receiver_entry::{poll_told, told};
 use mea_base::{NoMemory, Ready};
-use mea_family::Answer;
+use mea_family::Reply;
 use std::marker::Model;
 
 /// What a hall keeps of a channel: its core.
@@ -62,7 +62,7 @@ impl<C: MailboxCore> ChannelEntry<C> {
     }
 
     /// Takes the first message, if there is one. It takes no memory.
-    pub fn receive(&mut self) -> Answer
+    pub fn receive(&mut self) -> Reply
         ensures answer { result ≡ told (recv_answer self.old) }
         ensures after { self.new ≡ after_recv self.old }
     {
@@ -71,7 +71,7 @@ impl<C: MailboxCore> ChannelEntry<C> {
 
     /// Polls the receiver. The waker is counted before it is registered, and no longer where it was not registered or
     /// took the place of an earlier one.
-    pub fn poll(&mut self, waker: u64, ready: &mut Ready<u64>) -> Result<Answer, NoMemory>
+    pub fn poll(&mut self, waker: u64, ready: &mut Ready<u64>) -> Result<Reply, NoMemory>
         ensures polls { IfOk result (λ answer. Polls self.old waker answer self.new ready.old ready.new) }
         ensures err { OnErr result ((self.new ≡ self.old) × (ready.new ≡ ready.old)) }
     {

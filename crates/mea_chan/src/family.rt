@@ -17,7 +17,7 @@ use mea_by_name::NamedWaker;
 use mea_chan_core::{BoundedCore, BoxCore, OneshotCore, OptionBoxCore, UnboundedCore};
 use mea_chan_model::wakes_are_of_the_registered;
 use mea_events::ChanEvent;
-use mea_family::{Answer, Stop};
+use mea_family::{Reply, Stop};
 use mea_family_hall::{Family, FamilyHall};
 use std::alloc::Global;
 use std::marker::Model;
@@ -168,7 +168,7 @@ impl Family<ChanModel> for ChanFamily {
         number: u64,
         event: &ChanEvent,
         ready: &mut Ready<u64>,
-    ) -> Result<Answer, Stop> {
+    ) -> Result<Reply, Stop> {
         wakes_are_of_the_registered();
         let answer = self.kinds.act(number, meaning_of(event), ready)?;
         self.next = number as u128 + 1;

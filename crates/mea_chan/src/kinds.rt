@@ -11,7 +11,7 @@ use crate::meaning::Meaning;
 use mea_base::Ready;
 use mea_chan_broadcast::BroadcastPart;
 use mea_chan_core::{BoxCore, OneshotCore, OptionBoxCore, UnboundedCore};
-use mea_family::{Answer, Stop};
+use mea_family::{Reply, Stop};
 use std::alloc::Global;
 
 /// The channels and boxes of each kind. An event on one kind leaves the others as they are.
@@ -61,7 +61,7 @@ impl Kinds {
         number: u64,
         meaning: Meaning,
         ready: &mut Ready<u64>,
-    ) -> Result<Answer, Stop>
+    ) -> Result<Reply, Stop>
         requires fits { FitsMeaning meaning }
         requires below { AreBelow (parts self.old) number }
         requires room { registered (hall_of (parts self.old)) ≤ ready.old.registered }

@@ -11,7 +11,7 @@ use crate::mailbox_core::{MailboxCore, SharedCore, SingleCore};
 use crate::receiver_entry::{ReceiverEntry, receiver_in};
 use mea_base::Ready;
 use mea_by_name::ByName;
-use mea_family::{Answer, Stop, overflow_if, unknown_unless, yes_if};
+use mea_family::{Reply, Stop, Word, overflow_if, unknown_unless, yes_if};
 use std::alloc::Global;
 use std::marker::Model;
 
@@ -92,7 +92,7 @@ impl<C: MailboxCore> MailboxPart<C> {
         number: u64,
         action: MailAction,
         ready: &mut Ready<u64>,
-    ) -> Result<Answer, Stop>
+    ) -> Result<Reply, Stop>
         requires next { self.old.next ≤ number }
         requires room { registered self.old.hall ≤ ready.old.registered }
         ensures { MailActs self.old number (mail_action C.falls action) result self.new ready.old ready.new }
@@ -114,7 +114,7 @@ impl<C: MailboxCore> MailboxPart<C> {
     }
 
     // Makes a channel, with a sender and a receiver. On an error nothing has changed.
-    fn make(&mut self, number: u64, polls: bool) -> Result<Answer, Stop>
+    fn make(&mut self, number: u64, polls: bool) -> Result<Reply, Stop>
         requires next { self.old.next ≤ number }
         ensures { MailActsQuietly self.old number (Make polls) result self.new }
     {
@@ -136,11 +136,11 @@ impl<C: MailboxCore> MailboxPart<C> {
             return Err(Stop::NoMemory);
         };
         self.next = number as u128 + 1;
-        Ok(Answer::Made)
+        Ok(Reply(Word::Made))
     }
 
     // Ends a sender. It takes no memory.
-    fn end_sender(&mut self, number: u64, s: u64, ready: &mut Ready<u64>) -> Result<Answer, Stop>
+    fn end_sender(&mut self, number: u64, s: u64, ready: &mut Ready<u64>) -> Result<Reply, Stop>
         requires next { self.old.next ≤ number }
         requires room { registered self.old.hall ≤ ready.old.registered }
         ensures { MailActs self.old number (EndSender s) result self.new ready.old ready.new }
@@ -153,11 +153,11 @@ impl<C: MailboxCore> MailboxPart<C> {
         let over = entry.is_over();
         self.channels.remove_if(o, over);
         self.next = number as u128 + 1;
-        Ok(Answer::Done)
+        Ok(Reply(Word::Done))
     }
 
     // Takes the first message of a receiver, that can be polled or cannot. It takes no memory.
-    fn receive(&mut self, number: u64, r: u64, polls: bool) -> Result<Answer, Stop>
+    fn receive(&mut self, number: u64, r: u64, polls: bool) -> Result<Reply, Stop>
         requires next { self.old.next ≤ number }
         ensures { MailActsQuietly self.old number (Receive r polls) result self.new }
     {
@@ -176,7 +176,7 @@ impl<C: MailboxCore> MailboxPart<C> {
         r: u64,
         waker: u64,
         ready: &mut Ready<u64>,
-    ) -> Result<Answer, Stop>
+    ) -> Result<Reply, Stop>
         requires next { self.old.next ≤ number }
         ensures { MailActs self.old number (Poll r waker) result self.new ready.old ready.new }
     {
@@ -198,7 +198,7 @@ impl<C: MailboxCore> MailboxPart<C> {
         r: u64,
         polls: bool,
         ready: &mut Ready<u64>,
-    ) -> Result<Answer, Stop>
+    ) -> Result<Reply, Stop>
         requires next { self.old.next ≤ number }
         requires room { registered self.old.hall ≤ ready.old.registered }
         ensures { MailActs self.old number (EndReceiver r polls C.falls) result self.new ready.old ready.new }
@@ -213,7 +213,7 @@ impl<C: MailboxCore> MailboxPart<C> {
         let over = entry.is_over();
         self.channels.remove_if(o, over);
         self.next = number as u128 + 1;
-        Ok(Answer::Done)
+        Ok(Reply(Word::Done))
     }
 }
 
@@ -235,7 +235,7 @@ impl<C: SharedCore> MailboxPart<C> {
         number: u64,
         action: UnboundedAction,
         ready: &mut Ready<u64>,
-    ) -> Result<Answer, Stop>
+    ) -> Result<Reply, Stop>
         requires next { self.old.next ≤ number }
         requires room { registered self.old.hall ≤ ready.old.registered }
         ensures { MailActs self.old number (unbounded_action C.falls action) result self.new ready.old ready.new }
@@ -259,7 +259,7 @@ impl<C: SharedCore> MailboxPart<C> {
     }
 
     // Makes a further sender. On an error nothing has changed.
-    fn copy(&mut self, number: u64, s: u64) -> Result<Answer, Stop>
+    fn copy(&mut self, number: u64, s: u64) -> Result<Reply, Stop>
         requires next { self.old.next ≤ number }
         ensures { MailActsQuietly self.old number (Copy s) result self.new }
     {
@@ -272,7 +272,7 @@ impl<C: SharedCore> MailboxPart<C> {
         };
         self.channels.at_mut(o).add_sender();
         self.next = number as u128 + 1;
-        Ok(Answer::Made)
+        Ok(Reply(Word::Made))
     }
 
     // Sends a message. On an error nothing has changed.
@@ -282,7 +282,7 @@ impl<C: SharedCore> MailboxPart<C> {
         s: u64,
         message: u64,
         ready: &mut Ready<u64>,
-    ) -> Result<Answer, Stop>
+    ) -> Result<Reply, Stop>
         requires next { self.old.next ≤ number }
         requires room { registered self.old.hall ≤ ready.old.registered }
         ensures { MailActs self.old number (Send s message) result self.new ready.old ready.new }
@@ -321,7 +321,7 @@ impl<C: SingleCore> MailboxPart<C> {
         number: u64,
         action: OneshotAction,
         ready: &mut Ready<u64>,
-    ) -> Result<Answer, Stop>
+    ) -> Result<Reply, Stop>
         requires next { self.old.next ≤ number }
         requires room { registered self.old.hall ≤ ready.old.registered }
         ensures { MailActs self.old number (oneshot_action C.falls action) result self.new ready.old ready.new }
@@ -343,7 +343,7 @@ impl<C: SingleCore> MailboxPart<C> {
         s: u64,
         message: u64,
         ready: &mut Ready<u64>,
-    ) -> Result<Answer, Stop>
+    ) -> Result<Reply, Stop>
         requires next { self.old.next ≤ number }
         requires room { registered self.old.hall ≤ ready.old.registered }
         ensures { MailActs self.old number (SendLast s message) result self.new ready.old ready.new }
@@ -360,7 +360,7 @@ impl<C: SingleCore> MailboxPart<C> {
     }
 
     // Makes a receiver a future. On an error nothing has changed.
-    fn turn(&mut self, number: u64, r: u64) -> Result<Answer, Stop>
+    fn turn(&mut self, number: u64, r: u64) -> Result<Reply, Stop>
         requires next { self.old.next ≤ number }
         ensures { MailActsQuietly self.old number (Turn r) result self.new }
     {
@@ -375,11 +375,11 @@ impl<C: SingleCore> MailboxPart<C> {
             return Err(Stop::NoMemory);
         };
         self.next = number as u128 + 1;
-        Ok(Answer::Made)
+        Ok(Reply(Word::Made))
     }
 
     // Tells a sender whether the receiver has ended. It takes no memory.
-    fn tell_closed(&mut self, number: u64, s: u64) -> Result<Answer, Stop>
+    fn tell_closed(&mut self, number: u64, s: u64) -> Result<Reply, Stop>
         requires next { self.old.next ≤ number }
         ensures { MailActsQuietly self.old number (TellClosed s) result self.new }
     {
@@ -392,7 +392,7 @@ impl<C: SingleCore> MailboxPart<C> {
     }
 
     // Tells a receiver whether no message will come any more. It takes no memory.
-    fn tell_over(&mut self, number: u64, r: u64) -> Result<Answer, Stop>
+    fn tell_over(&mut self, number: u64, r: u64) -> Result<Reply, Stop>
         requires next { self.old.next ≤ number }
         ensures { MailActsQuietly self.old number (TellOver r) result self.new }
     {
@@ -405,7 +405,7 @@ impl<C: SingleCore> MailboxPart<C> {
     }
 
     // Tells a receiver whether the message is there. It takes no memory.
-    fn tell_message(&mut self, number: u64, r: u64) -> Result<Answer, Stop>
+    fn tell_message(&mut self, number: u64, r: u64) -> Result<Reply, Stop>
         requires next { self.old.next ≤ number }
         ensures { MailActsQuietly self.old number (TellMessage r) result self.new }
     {
@@ -418,12 +418,12 @@ impl<C: SingleCore> MailboxPart<C> {
     }
 }
 
-fn answer_of_send(sent: bool, message: u64) -> Answer
+fn answer_of_send(sent: bool, message: u64) -> Reply
     ensures { result ≡ (if sent then Answer.Accepted else Answer.Closed message) }
 {
     if sent {
-        Answer::Accepted
+        Reply(Word::Accepted)
     } else {
-        Answer::Closed(message)
+        Reply(Word::Closed(message))
     }
 }

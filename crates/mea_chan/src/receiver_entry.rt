@@ -7,7 +7,7 @@ ghost use Rattle.mea_chan.specs.Entries.{told, poll_told};
 
 use mea_by_name::ByName;
 use mea_chan_core::TryRecvError;
-use mea_family::Answer;
+use mea_family::{Reply, Word};
 
 /// What a hall keeps of a receiver.
 #[derive(Clone, Copy)]
@@ -37,23 +37,23 @@ fn is_as(polls: bool, wanted: bool) -> bool
 }
 
 /// What a script is told of a receive. It takes no memory.
-pub fn told(received: Result<u64, TryRecvError>) -> Answer
+pub fn told(received: Result<u64, TryRecvError>) -> Reply
     ensures { result ≡ told received }
 {
     match received {
-        Ok(message) => Answer::Got(message),
-        Err(TryRecvError::Empty) => Answer::Empty,
-        Err(TryRecvError::Disconnected) => Answer::Gone,
+        Ok(message) => Reply(Word::Got(message)),
+        Err(TryRecvError::Empty) => Reply(Word::Empty),
+        Err(TryRecvError::Disconnected) => Reply(Word::Gone),
     }
 }
 
 /// What a script is told of a poll. It takes no memory.
-pub fn poll_told(received: Result<u64, TryRecvError>) -> Answer
+pub fn poll_told(received: Result<u64, TryRecvError>) -> Reply
     ensures { result ≡ poll_told received }
 {
     match received {
-        Ok(message) => Answer::Got(message),
-        Err(TryRecvError::Empty) => Answer::Pending,
-        Err(TryRecvError::Disconnected) => Answer::Gone,
+        Ok(message) => Reply(Word::Got(message)),
+        Err(TryRecvError::Empty) => Reply(Word::Pending),
+        Err(TryRecvError::Disconnected) => Reply(Word::Gone),
     }
 }

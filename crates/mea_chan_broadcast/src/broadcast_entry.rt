@@ -9,7 +9,7 @@ ghost use Rattle.mea_chan_broadcast.specs.BroadcastParts.{broadcast_seen};
 use mea_base::{NoMemory, Poll, Ready};
 use mea_broadcast_core::{BroadcastCore, BroadcastRecv, BroadcastTry, Cursor, RecvWait};
 use mea_by_name::NamedWaker;
-use mea_family::Answer;
+use mea_family::{Reply, Word};
 
 /// What a hall keeps of a broadcast channel.
 #[derive(Drop)]
@@ -69,17 +69,17 @@ impl BroadcastEntry {
     }
 
     /// Receives at a cursor. On an error nothing has changed.
-    pub fn hear(&self, cursor: &mut Cursor) -> Result<Answer, NoMemory>
+    pub fn hear(&self, cursor: &mut Cursor) -> Result<Reply, NoMemory>
         requires { cursor.old.position ≤ self.now.core.tail }
         ensures answer { IfOk result (λ answer. answer ≡ heard_told self.now.core (found self.now.core cursor.old.position)) }
         ensures cursor { IfOk result (λ _. cursor.new.position ≡ moved_to self.now.core (found self.now.core cursor.old.position) cursor.old.position) }
         ensures err { OnErr result (cursor.new ≡ cursor.old) }
     {
         match self.core.try_recv(cursor) {
-            Ok(message) => Ok(Answer::Got(message)),
-            Err(BroadcastTry::Lagged(missed)) => Ok(Answer::Lagged(missed)),
-            Err(BroadcastTry::Empty) => Ok(Answer::Empty),
-            Err(BroadcastTry::Disconnected) => Ok(Answer::Gone),
+            Ok(message) => Ok(Reply(Word::Got(message))),
+            Err(BroadcastTry::Lagged(missed)) => Ok(Reply(Word::Lagged(missed))),
+            Err(BroadcastTry::Empty) => Ok(Reply(Word::Empty)),
+            Err(BroadcastTry::Disconnected) => Ok(Reply(Word::Gone)),
             Err(BroadcastTry::NoMemory) => Err(NoMemory),
         }
     }
@@ -90,7 +90,7 @@ impl BroadcastEntry {
         cursor: &mut Cursor,
         wait: &mut RecvWait,
         waker: NamedWaker,
-    ) -> Result<Answer, NoMemory>
+    ) -> Result<Reply, NoMemory>
         requires cursor { cursor.old.position ≤ self.old.core.tail }
         requires wait { has_given self.old.core.waiting wait.old ≡ true }
         ensures polls { IfOk result (λ answer. Polls self.old.core (found self.old.core cursor.old.position) cursor.old.position wait.old waker answer self.new.core cursor.new.position wait.new) }
@@ -99,10 +99,10 @@ impl BroadcastEntry {
         ensures err { OnErr result ((self.new ≡ self.old) × (cursor.new ≡ cursor.old) × (wait.new ≡ wait.old)) }
     {
         match self.core.poll_recv(cursor, wait, waker) {
-            Ok(Poll::Ready(Ok(message))) => Ok(Answer::Got(message)),
-            Ok(Poll::Ready(Err(BroadcastRecv::Lagged(missed)))) => Ok(Answer::Lagged(missed)),
-            Ok(Poll::Ready(Err(BroadcastRecv::Disconnected))) => Ok(Answer::Gone),
-            Ok(Poll::Pending) => Ok(Answer::Pending),
+            Ok(Poll::Ready(Ok(message))) => Ok(Reply(Word::Got(message))),
+            Ok(Poll::Ready(Err(BroadcastRecv::Lagged(missed)))) => Ok(Reply(Word::Lagged(missed))),
+            Ok(Poll::Ready(Err(BroadcastRecv::Disconnected))) => Ok(Reply(Word::Gone)),
+            Ok(Poll::Pending) => Ok(Reply(Word::Pending)),
             Err(_) => Err(NoMemory),
         }
     }
@@ -115,7 +115,7 @@ impl BroadcastEntry {
         wait: &mut RecvWait,
         waker: NamedWaker,
         ready: &mut Ready<u64>,
-    ) -> Result<Answer, NoMemory>
+    ) -> Result<Reply, NoMemory>
         requires cursor { cursor.old.position ≤ self.old.core.tail }
         requires wait { has_given self.old.core.waiting wait.old ≡ true }
         requires room { kept_by self.old.core ≤ ready.old.registered }

@@ -17,7 +17,7 @@ use mea_base::Ready;
 use mea_broadcast_core::{BroadcastCore, Cursor, RecvWait};
 use mea_by_name::{ByName, NamedWaker};
 use mea_chan_model::BroadcastAction;
-use mea_family::{Answer, Stop, borrowed_if, overflow_if, unknown_unless};
+use mea_family::{Reply, Stop, Word, borrowed_if, overflow_if, unknown_unless};
 use std::alloc::Global;
 use std::marker::Model;
 
@@ -102,7 +102,7 @@ impl BroadcastPart {
         number: u64,
         action: BroadcastAction,
         ready: &mut Ready<u64>,
-    ) -> Result<Answer, Stop>
+    ) -> Result<Reply, Stop>
         requires next { self.old.next ≤ number }
         requires room { registered self.old.hall ≤ ready.old.registered }
         ensures { BroadcastActs self.old number action result self.new ready.old ready.new }
@@ -163,7 +163,7 @@ impl BroadcastPart {
 
     // Makes a channel whose ring keeps `capacity` messages or more, with a sender and a receiver. On an error nothing has
     // changed.
-    fn make(&mut self, number: u64, capacity: u64) -> Result<Answer, Stop>
+    fn make(&mut self, number: u64, capacity: u64) -> Result<Reply, Stop>
         requires next { self.old.next ≤ number }
         ensures { BroadcastActsQuietly self.old number (Open capacity) result self.new }
     {
@@ -182,7 +182,7 @@ impl BroadcastPart {
         number: u64,
         core: BroadcastCore<u64, NamedWaker>,
         capacity: u64,
-    ) -> Result<Answer, Stop>
+    ) -> Result<Reply, Stop>
         requires next { self.old.next ≤ number }
         requires new { IsFresh core 0 × IsNextPowerOfTwo capacity core.size }
         requires some { 0 < capacity }
@@ -210,11 +210,11 @@ impl BroadcastPart {
             return Err(Stop::NoMemory);
         };
         self.next = number as u128 + 1;
-        Ok(Answer::Made)
+        Ok(Reply(Word::Made))
     }
 
     // Makes a further sender. On an error nothing has changed.
-    fn copy_sender(&mut self, number: u64, s: u64) -> Result<Answer, Stop>
+    fn copy_sender(&mut self, number: u64, s: u64) -> Result<Reply, Stop>
         requires next { self.old.next ≤ number }
         ensures { BroadcastActsQuietly self.old number (AddSender s) result self.new }
     {
@@ -227,7 +227,7 @@ impl BroadcastPart {
         };
         let _ = self.channels.at_mut(o).core.add_sender();
         self.next = number as u128 + 1;
-        Ok(Answer::Made)
+        Ok(Reply(Word::Made))
     }
 
     // Sends a message to all receivers. It takes no memory.
@@ -237,7 +237,7 @@ impl BroadcastPart {
         s: u64,
         message: u64,
         ready: &mut Ready<u64>,
-    ) -> Result<Answer, Stop>
+    ) -> Result<Reply, Stop>
         requires next { self.old.next ≤ number }
         requires room { registered self.old.hall ≤ ready.old.registered }
         ensures { BroadcastActs self.old number (SendAll s message) result self.new ready.old ready.new }
@@ -251,11 +251,11 @@ impl BroadcastPart {
         }
         entry.send(message, ready);
         self.next = number as u128 + 1;
-        Ok(Answer::Done)
+        Ok(Reply(Word::Done))
     }
 
     // Ends a sender. It takes no memory.
-    fn end_sender(&mut self, number: u64, s: u64, ready: &mut Ready<u64>) -> Result<Answer, Stop>
+    fn end_sender(&mut self, number: u64, s: u64, ready: &mut Ready<u64>) -> Result<Reply, Stop>
         requires next { self.old.next ≤ number }
         requires room { registered self.old.hall ≤ ready.old.registered }
         ensures { BroadcastActs self.old number (EndSender s) result self.new ready.old ready.new }
@@ -268,11 +268,11 @@ impl BroadcastPart {
         let over = entry.is_over();
         self.channels.remove_if(o, over);
         self.next = number as u128 + 1;
-        Ok(Answer::Done)
+        Ok(Reply(Word::Done))
     }
 
     // Makes a receiver of what is sent from now on, beside a sender. On an error nothing has changed.
-    fn subscribe(&mut self, number: u64, s: u64) -> Result<Answer, Stop>
+    fn subscribe(&mut self, number: u64, s: u64) -> Result<Reply, Stop>
         requires next { self.old.next ≤ number }
         ensures { BroadcastActsQuietly self.old number (Subscribe s) result self.new }
     {
@@ -285,7 +285,7 @@ impl BroadcastPart {
     }
 
     // Makes a receiver of what is sent from now on, beside a receiver. On an error nothing has changed.
-    fn resubscribe(&mut self, number: u64, r: u64) -> Result<Answer, Stop>
+    fn resubscribe(&mut self, number: u64, r: u64) -> Result<Reply, Stop>
         requires next { self.old.next ≤ number }
         ensures { BroadcastActsQuietly self.old number (Resubscribe r) result self.new }
     {
@@ -298,7 +298,7 @@ impl BroadcastPart {
     }
 
     // Makes a receiver that has passed the same messages. On an error nothing has changed.
-    fn copy_receiver(&mut self, number: u64, r: u64) -> Result<Answer, Stop>
+    fn copy_receiver(&mut self, number: u64, r: u64) -> Result<Reply, Stop>
         requires next { self.old.next ≤ number }
         ensures { BroadcastActsQuietly self.old number (CopyReceiver r) result self.new }
     {
@@ -312,7 +312,7 @@ impl BroadcastPart {
     }
 
     // Makes a receiver with this cursor.
-    fn join(&mut self, number: u64, o: u64, cursor: Cursor) -> Result<Answer, Stop>
+    fn join(&mut self, number: u64, o: u64, cursor: Cursor) -> Result<Reply, Stop>
         requires next { self.old.next ≤ number }
         requires there { (c : Broadcast) × (map.get self.old.hall.channels o ≡ Some c) × (cursor.position ≤ c.tail) }
         ensures ok { IfOk result (λ answer. (c : Broadcast) → map.get self.old.hall.channels o ≡ Some c → PartRests registered self.old number (join self.old.hall number cursor.position o c) answer self.new) }
@@ -328,11 +328,11 @@ impl BroadcastPart {
         };
         self.channels.at_mut(o).receivers += 1;
         self.next = number as u128 + 1;
-        Ok(Answer::Made)
+        Ok(Reply(Word::Made))
     }
 
     // Takes the next message of a receiver, if there is one. On an error nothing has changed.
-    fn hear(&mut self, number: u64, r: u64) -> Result<Answer, Stop>
+    fn hear(&mut self, number: u64, r: u64) -> Result<Reply, Stop>
         requires next { self.old.next ≤ number }
         ensures { BroadcastActsQuietly self.old number (Hear r) result self.new }
     {
@@ -354,7 +354,7 @@ impl BroadcastPart {
     }
 
     // Ends a receiver. It takes no memory.
-    fn end_receiver(&mut self, number: u64, r: u64) -> Result<Answer, Stop>
+    fn end_receiver(&mut self, number: u64, r: u64) -> Result<Reply, Stop>
         requires next { self.old.next ≤ number }
         ensures { BroadcastActsQuietly self.old number (EndReceiver r) result self.new }
     {
@@ -367,11 +367,11 @@ impl BroadcastPart {
         let over = entry.is_over();
         self.channels.remove_if(o, over);
         self.next = number as u128 + 1;
-        Ok(Answer::Done)
+        Ok(Reply(Word::Done))
     }
 
     // Makes a future that uses a receiver alone. On an error nothing has changed.
-    fn begin(&mut self, number: u64, r: u64) -> Result<Answer, Stop>
+    fn begin(&mut self, number: u64, r: u64) -> Result<Reply, Stop>
         requires next { self.old.next ≤ number }
         ensures { BroadcastActsQuietly self.old number (BeginHear r) result self.new }
     {
@@ -391,7 +391,7 @@ impl BroadcastPart {
         };
         receiver.user = Some(number);
         self.next = number as u128 + 1;
-        Ok(Answer::Made)
+        Ok(Reply(Word::Made))
     }
 
     // Polls a future, which is gone unless it waits. On an error nothing has changed.
@@ -401,7 +401,7 @@ impl BroadcastPart {
         f: u64,
         waker: u64,
         ready: &mut Ready<u64>,
-    ) -> Result<Answer, Stop>
+    ) -> Result<Reply, Stop>
         requires next { self.old.next ≤ number }
         requires room { registered self.old.hall ≤ ready.old.registered }
         ensures { BroadcastActs self.old number (PollHear f waker) result self.new ready.old ready.new }
@@ -415,7 +415,7 @@ impl BroadcastPart {
         let Ok(answer) = entry.poll(&mut receiver.cursor, &mut future.wait, waker, ready) else {
             return Err(Stop::NoMemory);
         };
-        let over = is_answered(answer);
+        let over = is_answered(&answer);
         receiver.user = user_unless(over, f);
         self.futures.remove_if(f, over);
         self.next = number as u128 + 1;
@@ -423,7 +423,7 @@ impl BroadcastPart {
     }
 
     // Ends a future; its waker stays. It takes no memory.
-    fn end_future(&mut self, number: u64, f: u64) -> Result<Answer, Stop>
+    fn end_future(&mut self, number: u64, f: u64) -> Result<Reply, Stop>
         requires next { self.old.next ≤ number }
         ensures { BroadcastActsQuietly self.old number (EndHear f) result self.new }
     {
@@ -432,7 +432,7 @@ impl BroadcastPart {
         };
         self.receivers.at_mut(future.receiver).user = None;
         self.next = number as u128 + 1;
-        Ok(Answer::Done)
+        Ok(Reply(Word::Done))
     }
 }
 
@@ -452,10 +452,10 @@ fn cause_of_size(size: u64) -> Option<Stop>
 }
 
 // Whether a future has its answer.
-fn is_answered(answer: Answer) -> bool
-    ensures { result ≡ (if is_pending answer then false else true) }
+fn is_answered(answer: &Reply) -> bool
+    ensures { result ≡ (if is_pending answer.now then false else true) }
 {
-    !matches!(answer, Answer::Pending)
+    !answer.is_pending()
 }
 
 // Who uses a receiver, unless that is over.

@@ -90,11 +90,11 @@ impl Families {
     {
         match event {
             Event::Sem(event) => self.semaphores.act(number, event, ready),
-            Event::Meet(event) => self.meets.act(number, event, ready),
-            Event::Lock(event) => self.locks.act(number, event, ready),
-            Event::Chan(event) => self.chans.act(number, event, ready),
-            Event::Share(event) => self.shares.act(number, event, ready),
-            Event::Once(event) => self.onces.act(number, event, ready),
+            Event::Meet(event) => Ok(self.meets.act(number, event, ready)?.into_answer()),
+            Event::Lock(event) => Ok(self.locks.act(number, event, ready)?.into_answer()),
+            Event::Chan(event) => Ok(self.chans.act(number, event, ready)?.into_answer()),
+            Event::Share(event) => Ok(self.shares.act(number, event, ready)?.into_answer()),
+            Event::Once(event) => Ok(self.onces.act(number, event, ready)?.into_answer()),
         }
     }
 }

@@ -9,7 +9,7 @@ use crate::meaning::meaning_of;
 use mea_base::Ready;
 use mea_by_name::NamedWaker;
 use mea_events::LockEvent;
-use mea_family::{Answer, Stop};
+use mea_family::{Reply, Stop};
 use mea_family_hall::{Family, FamilyHall};
 use mea_lock_core::{CondvarCore, MutexCore, RwCore};
 use mea_lock_model::wakes_are_of_the_registered;
@@ -135,7 +135,7 @@ impl Family<LockModel> for LockFamily {
         number: u64,
         event: &LockEvent,
         ready: &mut Ready<u64>,
-    ) -> Result<Answer, Stop> {
+    ) -> Result<Reply, Stop> {
         wakes_are_of_the_registered();
         let answer = self.kinds.act(number, meaning_of(event), ready)?;
         self.next = number as u128 + 1;

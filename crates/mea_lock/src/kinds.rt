@@ -9,7 +9,7 @@ use crate::part::LockPart;
 use crate::wait_part::WaitPart;
 use mea_base::Ready;
 use mea_by_name::NamedWaker;
-use mea_family::{Answer, Stop, unknown_unless};
+use mea_family::{Reply, Stop, unknown_unless};
 use mea_lock_core::{MutexCore, RwCore};
 use std::alloc::Global;
 
@@ -52,7 +52,7 @@ impl Kinds {
         number: u64,
         meaning: Meaning,
         ready: &mut Ready<u64>,
-    ) -> Result<Answer, Stop>
+    ) -> Result<Reply, Stop>
         requires fits { FitsMeaning meaning }
         requires below { AreBelow self.old.mutexes self.old.rw_locks self.old.condvars number }
         requires room { registered (hall_of self.old.mutexes self.old.rw_locks self.old.condvars) ≤ ready.old.registered }

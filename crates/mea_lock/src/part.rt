@@ -23,7 +23,7 @@ use crate::lock_core::{LockCore, LoweredCore};
 use crate::until::Asked;
 use mea_base::{NoMemory, Ready, Turn};
 use mea_by_name::{ByName, Roomy};
-use mea_family::{Answer, Form, Stop, borrowed_if, unknown_unless, zero_if};
+use mea_family::{Form, Reply, Stop, Word, borrowed_if, unknown_unless, zero_if};
 use mea_lock_model::Until;
 use std::alloc::Global;
 use std::marker::Model;
@@ -115,7 +115,7 @@ impl<C: LockCore> LockPart<C> {
         number: u64,
         action: LockAction,
         ready: &mut Ready<u64>,
-    ) -> Result<Answer, Stop>
+    ) -> Result<Reply, Stop>
         requires next { self.old.next ≤ number }
         requires fits { C.is_only_written ≡ true → FitsMutex action }
         requires room { registered self.old.hall ≤ ready.old.registered }
@@ -208,7 +208,7 @@ impl<C: LockCore> LockPart<C> {
     }
 
     // Makes a lock of a value and so many permits. On an error nothing has changed.
-    fn make(&mut self, number: u64, value: u64, most: usize) -> Result<Answer, Stop>
+    fn make(&mut self, number: u64, value: u64, most: usize) -> Result<Reply, Stop>
         requires next { self.old.next ≤ number }
         requires one { C.is_only_written ≡ true → most ≡ 1 }
         ensures { ActsQuietly self.old number (Make value most) result self.new }
@@ -221,11 +221,11 @@ impl<C: LockCore> LockPart<C> {
             return Err(Stop::NoMemory);
         };
         self.next = number as u128 + 1;
-        Ok(Answer::Made)
+        Ok(Reply(Word::Made))
     }
 
     // Makes a future, to read or to write. On an error nothing has changed.
-    fn begin(&mut self, number: u64, o: u64, form: Form, access: Access) -> Result<Answer, Stop>
+    fn begin(&mut self, number: u64, o: u64, form: Form, access: Access) -> Result<Reply, Stop>
         requires next { self.old.next ≤ number }
         requires writes { C.is_only_written ≡ true → writes access ≡ true }
         ensures { ActsQuietly self.old number (Begin o (is_plain form) (writes access)) result self.new }
@@ -244,7 +244,7 @@ impl<C: LockCore> LockPart<C> {
         };
         entry.begin(plain);
         self.next = number as u128 + 1;
-        Ok(Answer::Made)
+        Ok(Reply(Word::Made))
     }
 
     // Polls a future. Room for the guard is made first, but where what is held keeps the future out. On an error nothing has
@@ -255,7 +255,7 @@ impl<C: LockCore> LockPart<C> {
         f: u64,
         waker: u64,
         ready: &mut Ready<u64>,
-    ) -> Result<Answer, Stop>
+    ) -> Result<Reply, Stop>
         requires next { self.old.next ≤ number }
         requires room { registered self.old.hall ≤ ready.old.registered }
         ensures { Acts self.old number (Poll f waker) result self.new ready.old ready.new }
@@ -275,20 +275,20 @@ impl<C: LockCore> LockPart<C> {
             Err(_) => Err(Stop::NoMemory),
             Ok(Turn::Pending) => {
                 self.next = number as u128 + 1;
-                Ok(Answer::Pending)
+                Ok(Reply(Word::Pending))
             }
             Ok(Turn::Ready(_)) => {
                 self.guards.insert(number, guard);
                 let _ = self.futures.remove(f);
                 self.next = number as u128 + 1;
-                Ok(Answer::Ready)
+                Ok(Reply(Word::Ready))
             }
         }
     }
 
     /// Hands a guard that writes over to a wait on a condition variable, whose future has the lock instead. On an error
     /// nothing has changed.
-    pub fn hand(&mut self, number: u64, g: u64, guard: GuardEntry) -> Result<Answer, NoMemory>
+    pub fn hand(&mut self, number: u64, g: u64, guard: GuardEntry) -> Result<Reply, NoMemory>
         requires next { self.old.next ≤ number }
         requires there { map.get self.old.hall.guards g ≡ Some (guard_seen guard) }
         requires writes { guard.writes ≡ true }
@@ -304,7 +304,7 @@ impl<C: LockCore> LockPart<C> {
         };
         let _ = self.guards.remove(g);
         self.next = number as u128 + 1;
-        Ok(Answer::Made)
+        Ok(Reply(Word::Made))
     }
 
     /// Polls the future of a wait, which gives the lock up again where it goes on at the value. Room for the guard is
@@ -350,7 +350,7 @@ impl<C: LockCore> LockPart<C> {
     }
 
     // Makes a guard where its permits are free. Room for it is made first. On an error nothing has changed.
-    fn try_lock(&mut self, number: u64, o: u64, form: Form, access: Access) -> Result<Answer, Stop>
+    fn try_lock(&mut self, number: u64, o: u64, form: Form, access: Access) -> Result<Reply, Stop>
         requires next { self.old.next ≤ number }
         requires writes { C.is_only_written ≡ true → writes access ≡ true }
         ensures { ActsQuietly self.old number (Try o (is_plain form) (writes access)) result self.new }
@@ -373,14 +373,14 @@ impl<C: LockCore> LockPart<C> {
             };
             self.guards.insert(number, guard);
             self.next = number as u128 + 1;
-            return Ok(Answer::Held);
+            return Ok(Reply(Word::Held));
         }
         self.next = number as u128 + 1;
-        Ok(Answer::Lacking)
+        Ok(Reply(Word::Lacking))
     }
 
     // Tells the value, by a guard. It takes no memory.
-    fn get(&mut self, number: u64, g: u64) -> Result<Answer, Stop>
+    fn get(&mut self, number: u64, g: u64) -> Result<Reply, Stop>
         requires { self.old.next ≤ number }
         ensures { ActsQuietly self.old number (Get g) result self.new }
     {
@@ -389,11 +389,11 @@ impl<C: LockCore> LockPart<C> {
         };
         let v = self.locks.at(guard.lock).value_by(guard.writes);
         self.next = number as u128 + 1;
-        Ok(Answer::Value(v))
+        Ok(Reply(Word::Value(v)))
     }
 
     // Writes the value, by a guard that writes. It takes no memory.
-    fn set(&mut self, number: u64, g: u64, v: u64) -> Result<Answer, Stop>
+    fn set(&mut self, number: u64, g: u64, v: u64) -> Result<Reply, Stop>
         requires { self.old.next ≤ number }
         ensures { ActsQuietly self.old number (Set g v) result self.new }
     {
@@ -402,11 +402,11 @@ impl<C: LockCore> LockPart<C> {
         };
         self.locks.at_mut(guard.lock).set_value(v);
         self.next = number as u128 + 1;
-        Ok(Answer::Done)
+        Ok(Reply(Word::Done))
     }
 
     // Ends a future that waits for the lock alone, or else a guard. It takes no memory.
-    fn end(&mut self, number: u64, x: u64, ready: &mut Ready<u64>) -> Result<Answer, Stop>
+    fn end(&mut self, number: u64, x: u64, ready: &mut Ready<u64>) -> Result<Reply, Stop>
         requires next { self.old.next ≤ number }
         requires room { registered self.old.hall ≤ ready.old.registered }
         ensures { Acts self.old number (End x) result self.new ready.old ready.new }
@@ -419,7 +419,7 @@ impl<C: LockCore> LockPart<C> {
     }
 
     /// Ends a future, also that of a wait on a condition variable. It takes no memory.
-    pub fn end_wait(&mut self, number: u64, f: u64, ready: &mut Ready<u64>) -> Answer
+    pub fn end_wait(&mut self, number: u64, f: u64, ready: &mut Ready<u64>) -> Reply
         requires next { self.old.next ≤ number }
         requires there { is_future self.old.hall f ≡ true }
         requires room { registered self.old.hall ≤ ready.old.registered }
@@ -434,11 +434,11 @@ impl<C: LockCore> LockPart<C> {
         let over = entry.is_over();
         self.locks.remove_if(o, over);
         self.next = number as u128 + 1;
-        Answer::Done
+        Reply(Word::Done)
     }
 
     // Ends a guard. It takes no memory.
-    fn end_guard(&mut self, number: u64, g: u64, ready: &mut Ready<u64>) -> Result<Answer, Stop>
+    fn end_guard(&mut self, number: u64, g: u64, ready: &mut Ready<u64>) -> Result<Reply, Stop>
         requires next { self.old.next ≤ number }
         requires apart { map.get self.old.hall.futures g ≡ None }
         requires room { registered self.old.hall ≤ ready.old.registered }
@@ -453,11 +453,11 @@ impl<C: LockCore> LockPart<C> {
         let over = entry.is_over();
         self.locks.remove_if(guard.lock, over);
         self.next = number as u128 + 1;
-        Ok(Answer::Done)
+        Ok(Reply(Word::Done))
     }
 
     // Tells the value of a lock that has nothing. It takes no memory.
-    fn peek(&mut self, number: u64, o: u64) -> Result<Answer, Stop>
+    fn peek(&mut self, number: u64, o: u64) -> Result<Reply, Stop>
         requires { self.old.next ≤ number }
         ensures { ActsQuietly self.old number (Peek o) result self.new }
     {
@@ -466,11 +466,11 @@ impl<C: LockCore> LockPart<C> {
         }
         let v = self.locks.at_mut(o).idle_value();
         self.next = number as u128 + 1;
-        Ok(Answer::Value(v))
+        Ok(Reply(Word::Value(v)))
     }
 
     // Writes the value of a lock that has nothing. It takes no memory.
-    fn put(&mut self, number: u64, o: u64, v: u64) -> Result<Answer, Stop>
+    fn put(&mut self, number: u64, o: u64, v: u64) -> Result<Reply, Stop>
         requires { self.old.next ≤ number }
         ensures { ActsQuietly self.old number (Put o v) result self.new }
     {
@@ -479,11 +479,11 @@ impl<C: LockCore> LockPart<C> {
         }
         self.locks.at_mut(o).set_idle_value(v);
         self.next = number as u128 + 1;
-        Ok(Answer::Done)
+        Ok(Reply(Word::Done))
     }
 
     // Takes the value of a lock out that has nothing; the lock is gone. It takes no memory.
-    fn take(&mut self, number: u64, o: u64) -> Result<Answer, Stop>
+    fn take(&mut self, number: u64, o: u64) -> Result<Reply, Stop>
         requires { self.old.next ≤ number }
         ensures { ActsQuietly self.old number (Take o) result self.new }
     {
@@ -492,11 +492,11 @@ impl<C: LockCore> LockPart<C> {
         }
         let v = self.locks.remove(o).into_value();
         self.next = number as u128 + 1;
-        Ok(Answer::Value(v))
+        Ok(Reply(Word::Value(v)))
     }
 
     // Ends the name of a lock. It takes no memory.
-    fn end_name(&mut self, number: u64, o: u64) -> Result<Answer, Stop>
+    fn end_name(&mut self, number: u64, o: u64) -> Result<Reply, Stop>
         requires { self.old.next ≤ number }
         ensures { ActsQuietly self.old number (Drop o) result self.new }
     {
@@ -508,13 +508,13 @@ impl<C: LockCore> LockPart<C> {
         let over = entry.is_over();
         self.locks.remove_if(o, over);
         self.next = number as u128 + 1;
-        Ok(Answer::Done)
+        Ok(Reply(Word::Done))
     }
 }
 
 impl<C: LoweredCore> LockPart<C> {
     /// A guard that writes reads from now on. It takes no memory.
-    pub fn lower(&mut self, number: u64, g: u64, ready: &mut Ready<u64>) -> Result<Answer, Stop>
+    pub fn lower(&mut self, number: u64, g: u64, ready: &mut Ready<u64>) -> Result<Reply, Stop>
         requires next { self.old.next ≤ number }
         requires room { registered self.old.hall ≤ ready.old.registered }
         ensures { Acts self.old number (Lower g) result self.new ready.old ready.new }
@@ -525,7 +525,7 @@ impl<C: LoweredCore> LockPart<C> {
         self.guards.at_mut(g).writes = false;
         self.locks.at_mut(guard.lock).lower(ready);
         self.next = number as u128 + 1;
-        Ok(Answer::Done)
+        Ok(Reply(Word::Done))
     }
 }
 

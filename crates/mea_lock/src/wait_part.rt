@@ -17,7 +17,7 @@ use crate::until::Asked;
 use crate::wait_entry::WaitEntry;
 use mea_base::Ready;
 use mea_by_name::{ByName, NamedWaker};
-use mea_family::{Answer, Stop, borrowed_if, unknown_unless};
+use mea_family::{Reply, Stop, Word, borrowed_if, unknown_unless};
 use mea_lock_core::{CondvarCore, MutexCore};
 use mea_lock_model::{CondAction, Until};
 use std::alloc::Global;
@@ -116,7 +116,7 @@ impl WaitPart {
         number: u64,
         action: CondAction,
         ready: &mut Ready<u64>,
-    ) -> Result<Answer, Stop>
+    ) -> Result<Reply, Stop>
         requires next { self.old.next ≤ number }
         requires mutexes { mutexes.old.next ≤ number }
         requires room { locks.registered mutexes.old.hall + registered self.old.hall ≤ ready.old.registered }
@@ -164,7 +164,7 @@ impl WaitPart {
     }
 
     // Makes a condition variable. On an error nothing has changed.
-    fn make(&mut self, number: u64) -> Result<Answer, Stop>
+    fn make(&mut self, number: u64) -> Result<Reply, Stop>
         requires { self.old.next ≤ number }
         ensures { (m : Part Locks) (w : Waking ℕ) → m.next ≤ number → ActsOn m self.old number Make result m self.new w w }
     {
@@ -172,7 +172,7 @@ impl WaitPart {
             return Err(Stop::NoMemory);
         };
         self.next = number as u128 + 1;
-        Ok(Answer::Made)
+        Ok(Reply(Word::Made))
     }
 
     // Makes a wait, which takes a guard of a mutex over. On an error nothing has changed.
@@ -183,7 +183,7 @@ impl WaitPart {
         c: u64,
         g: u64,
         bound: Option<u64>,
-    ) -> Result<Answer, Stop>
+    ) -> Result<Reply, Stop>
         requires next { self.old.next ≤ number }
         requires mutexes { mutexes.old.next ≤ number }
         ensures { (w : Waking ℕ) → ActsOn mutexes.old self.old number (Wait c g bound) result mutexes.new self.new w w }
@@ -222,7 +222,7 @@ impl WaitPart {
         f: u64,
         waker: u64,
         ready: &mut Ready<u64>,
-    ) -> Result<Answer, Stop>
+    ) -> Result<Reply, Stop>
         requires next { self.old.next ≤ number }
         requires mutexes { mutexes.old.next ≤ number }
         requires room { locks.registered mutexes.old.hall + registered self.old.hall ≤ ready.old.registered }
@@ -238,7 +238,7 @@ impl WaitPart {
         if entry.is_waiting_under(wait.number) {
             entry.rewake_under(wait.number, f, waker);
             self.next = number as u128 + 1;
-            return Ok(Answer::Pending);
+            return Ok(Reply(Word::Pending));
         }
         let Ok(place) = entry.list(f, waker, ready) else {
             return Err(Stop::NoMemory);
@@ -252,24 +252,24 @@ impl WaitPart {
         match asked {
             Asked::Lays => {
                 wait.list(place);
-                Ok(Answer::Pending)
+                Ok(Reply(Word::Pending))
             }
             Asked::Asks => {
                 entry.unlist(place, ready);
                 wait.ask();
-                Ok(Answer::Pending)
+                Ok(Reply(Word::Pending))
             }
             Asked::Ready => {
                 entry.unlist(place, ready);
                 entry.finish();
                 let _ = self.waits.remove(f);
-                Ok(Answer::Ready)
+                Ok(Reply(Word::Ready))
             }
         }
     }
 
     // Notifies the first that waits. It takes no memory.
-    fn notify_one(&mut self, number: u64, c: u64, ready: &mut Ready<u64>) -> Result<Answer, Stop>
+    fn notify_one(&mut self, number: u64, c: u64, ready: &mut Ready<u64>) -> Result<Reply, Stop>
         requires next { self.old.next ≤ number }
         requires room { registered self.old.hall ≤ ready.old.registered }
         ensures { (m : Part Locks) → m.next ≤ number → ActsOn m self.old number (One c) result m self.new ready.old ready.new }
@@ -279,14 +279,14 @@ impl WaitPart {
         }
         self.next = number as u128 + 1;
         let Some(f) = self.condvars.at_mut(c).notify_one(ready) else {
-            return Ok(Answer::Done);
+            return Ok(Reply(Word::Done));
         };
         self.waits.at_mut(f).alone = true;
-        Ok(Answer::Done)
+        Ok(Reply(Word::Done))
     }
 
     // Notifies each that waits, in their order. It takes no memory.
-    fn notify_all(&mut self, number: u64, c: u64, ready: &mut Ready<u64>) -> Result<Answer, Stop>
+    fn notify_all(&mut self, number: u64, c: u64, ready: &mut Ready<u64>) -> Result<Reply, Stop>
         requires next { self.old.next ≤ number }
         requires room { registered self.old.hall ≤ ready.old.registered }
         ensures { (m : Part Locks) → m.next ≤ number → ActsOn m self.old number (All c) result m self.new ready.old ready.new }
@@ -296,7 +296,7 @@ impl WaitPart {
         }
         self.condvars.at_mut(c).notify_all(ready);
         self.next = number as u128 + 1;
-        Ok(Answer::Done)
+        Ok(Reply(Word::Done))
     }
 
     // Ends a wait: what it has at its mutex ends first, and then it waits no more, or passes on that it was notified
@@ -307,7 +307,7 @@ impl WaitPart {
         number: u64,
         f: u64,
         ready: &mut Ready<u64>,
-    ) -> Result<Answer, Stop>
+    ) -> Result<Reply, Stop>
         requires next { self.old.next ≤ number }
         requires mutexes { mutexes.old.next ≤ number }
         requires room { locks.registered mutexes.old.hall + registered self.old.hall ≤ ready.old.registered }
@@ -337,7 +337,7 @@ impl WaitPart {
     }
 
     // Ends a condition variable that has no wait. It takes no memory.
-    fn end_name(&mut self, number: u64, c: u64) -> Result<Answer, Stop>
+    fn end_name(&mut self, number: u64, c: u64) -> Result<Reply, Stop>
         requires { self.old.next ≤ number }
         ensures { (m : Part Locks) (w : Waking ℕ) → m.next ≤ number → ActsOn m self.old number (Drop c) result m self.new w w }
     {
@@ -346,6 +346,6 @@ impl WaitPart {
         }
         let _ = self.condvars.remove(c);
         self.next = number as u128 + 1;
-        Ok(Answer::Done)
+        Ok(Reply(Word::Done))
     }
 }

@@ -3,7 +3,7 @@ ghost use Rattle.mea_meet_core.specs.Barrier.{is_open};
 
 use mea_base::{NoMemory, Poll, Ready};
 use mea_by_name::NamedWaker;
-use mea_family::Answer;
+use mea_family::{Reply, Word};
 use mea_meet_core::{BarrierCore, BarrierWait, BarrierWaitResult};
 
 /// What a hall keeps of a barrier.
@@ -23,13 +23,13 @@ pub struct BarrierWaitEntry {
 }
 
 // What a poll that is ready replies.
-pub(crate) fn reply_of(told: BarrierWaitResult) -> Answer
+pub(crate) fn reply_of(told: BarrierWaitResult) -> Reply
     ensures { result ≡ cond told Answer.Leader Answer.Ready }
 {
     if told.is_leader() {
-        Answer::Leader
+        Reply(Word::Leader)
     } else {
-        Answer::Ready
+        Reply(Word::Ready)
     }
 }
 

@@ -9,7 +9,7 @@ ghost use Rattle.mea_meet.specs.Halls.{BarrierActs, BarrierActsQuietly};
 use crate::barrier_entry::{BarrierEntry, BarrierWaitEntry, reply_of};
 use mea_base::{Poll, Ready};
 use mea_by_name::{ByName, NamedWaker};
-use mea_family::{Answer, Stop, borrowed_if, unknown_unless};
+use mea_family::{Reply, Stop, Word, borrowed_if, unknown_unless};
 use mea_meet_core::{BarrierCore, BarrierWait};
 use mea_meet_model::BarrierAction;
 use std::alloc::Global;
@@ -82,7 +82,7 @@ impl BarrierPart {
         number: u64,
         action: BarrierAction,
         ready: &mut Ready<u64>,
-    ) -> Result<Answer, Stop>
+    ) -> Result<Reply, Stop>
         requires next { self.old.next ≤ number }
         requires room { registered self.old.hall ≤ ready.old.registered }
         ensures { BarrierActs self.old number action result self.new ready.old ready.new }
@@ -120,7 +120,7 @@ impl BarrierPart {
     }
 
     // Makes a barrier of n. On an error nothing has changed.
-    fn make(&mut self, number: u64, n: u32) -> Result<Answer, Stop>
+    fn make(&mut self, number: u64, n: u32) -> Result<Reply, Stop>
         requires { self.old.next ≤ number }
         ensures { BarrierActsQuietly self.old number (Make n) result self.new }
     {
@@ -132,11 +132,11 @@ impl BarrierPart {
             return Err(Stop::NoMemory);
         };
         self.next = number as u128 + 1;
-        Ok(Answer::Made)
+        Ok(Reply(Word::Made))
     }
 
     // Makes a future. On an error nothing has changed.
-    fn begin(&mut self, number: u64, b: u64) -> Result<Answer, Stop>
+    fn begin(&mut self, number: u64, b: u64) -> Result<Reply, Stop>
         requires { self.old.next ≤ number }
         ensures { BarrierActsQuietly self.old number (Begin b) result self.new }
     {
@@ -152,7 +152,7 @@ impl BarrierPart {
         };
         entry.waits += 1;
         self.next = number as u128 + 1;
-        Ok(Answer::Made)
+        Ok(Reply(Word::Made))
     }
 
     // Polls a future: a first poll arrives, and one that is ready is gone. On an error nothing has changed.
@@ -162,7 +162,7 @@ impl BarrierPart {
         f: u64,
         waker: u64,
         ready: &mut Ready<u64>,
-    ) -> Result<Answer, Stop>
+    ) -> Result<Reply, Stop>
         requires next { self.old.next ≤ number }
         requires room { registered self.old.hall ≤ ready.old.registered }
         ensures { BarrierActs self.old number (PollIt f waker) result self.new ready.old ready.new }
@@ -175,7 +175,7 @@ impl BarrierPart {
             Err(_) => Err(Stop::NoMemory),
             Ok(Poll::Pending) => {
                 self.next = number as u128 + 1;
-                Ok(Answer::Pending)
+                Ok(Reply(Word::Pending))
             }
             Ok(Poll::Ready(told)) => {
                 entry.waits -= 1;
@@ -187,7 +187,7 @@ impl BarrierPart {
     }
 
     // Ends a future; its arrival and its waker stay. It takes no memory.
-    fn end(&mut self, number: u64, f: u64) -> Result<Answer, Stop>
+    fn end(&mut self, number: u64, f: u64) -> Result<Reply, Stop>
         requires { self.old.next ≤ number }
         ensures { BarrierActsQuietly self.old number (End f) result self.new }
     {
@@ -196,11 +196,11 @@ impl BarrierPart {
         };
         self.barriers.at_mut(future.barrier).waits -= 1;
         self.next = number as u128 + 1;
-        Ok(Answer::Done)
+        Ok(Reply(Word::Done))
     }
 
     // Ends a barrier at which no future waits. It takes no memory.
-    fn end_name(&mut self, number: u64, b: u64, ready: &mut Ready<u64>) -> Result<Answer, Stop>
+    fn end_name(&mut self, number: u64, b: u64, ready: &mut Ready<u64>) -> Result<Reply, Stop>
         requires next { self.old.next ≤ number }
         requires room { registered self.old.hall ≤ ready.old.registered }
         ensures { BarrierActs self.old number (Drop b) result self.new ready.old ready.new }
@@ -211,6 +211,6 @@ impl BarrierPart {
         let entry = self.barriers.remove(b);
         ready.unregister(entry.core.registered());
         self.next = number as u128 + 1;
-        Ok(Answer::Done)
+        Ok(Reply(Word::Done))
     }
 }

@@ -22,7 +22,7 @@ use crate::point_entry::PointEntry;
 use crate::wait_entry::WaitEntry;
 use mea_base::{NoMemory, Poll, Ready};
 use mea_by_name::ByName;
-use mea_family::{Answer, Form, Stop, one_if, overflow_if, unknown_unless, yes_if};
+use mea_family::{Form, Reply, Stop, Word, one_if, overflow_if, unknown_unless, yes_if};
 use std::alloc::Global;
 use std::marker::Model;
 
@@ -132,7 +132,7 @@ impl<C: CountCore> CountPart<C> {
         number: u64,
         action: CountAction,
         ready: &mut Ready<u64>,
-    ) -> Result<Answer, Stop>
+    ) -> Result<Reply, Stop>
         requires next { self.old.next ≤ number }
         requires fits { FitsKind C.kind action }
         requires alone { lends C.kind ≡ false → BorrowNothing self.old.hall }
@@ -203,7 +203,7 @@ impl<C: CountCore> CountPart<C> {
     }
 
     // Makes a point, with its first holder, and a sender where it has one. On an error nothing has changed.
-    fn make(&mut self, number: u64, new: NewPoint) -> Result<Answer, Stop>
+    fn make(&mut self, number: u64, new: NewPoint) -> Result<Reply, Stop>
         requires next { self.old.next ≤ number }
         requires fits { IsNewOf C.kind (new_seen new) }
         ensures { CountActsQuietly self.old number (Make (new_seen new)) result self.new }
@@ -227,11 +227,11 @@ impl<C: CountCore> CountPart<C> {
             return Err(Stop::NoMemory);
         };
         self.next = number as u128 + 1;
-        Ok(Answer::Made)
+        Ok(Reply(Word::Made))
     }
 
     // Tells whether the signal is set. It takes no memory.
-    fn now(&mut self, number: u64, k: u64) -> Result<Answer, Stop>
+    fn now(&mut self, number: u64, k: u64) -> Result<Reply, Stop>
         requires { self.old.next ≤ number }
         ensures { CountActsQuietly self.old number (Now k) result self.new }
     {
@@ -244,13 +244,7 @@ impl<C: CountCore> CountPart<C> {
     }
 
     // Takes `n` from the signal, by a holder. It takes no memory.
-    fn arrive(
-        &mut self,
-        number: u64,
-        k: u64,
-        n: u32,
-        ready: &mut Ready<u64>,
-    ) -> Result<Answer, Stop>
+    fn arrive(&mut self, number: u64, k: u64, n: u32, ready: &mut Ready<u64>) -> Result<Reply, Stop>
         requires next { self.old.next ≤ number }
         requires most { takes_many C.kind ≡ true }
         requires room { registered self.old.hall ≤ ready.old.registered }
@@ -261,11 +255,11 @@ impl<C: CountCore> CountPart<C> {
         };
         self.points.at_mut(holder.point).arrive(n, ready);
         self.next = number as u128 + 1;
-        Ok(Answer::Done)
+        Ok(Reply(Word::Done))
     }
 
     // Sets the signal, by a sender. It takes no memory.
-    fn send(&mut self, number: u64, s: u64, ready: &mut Ready<u64>) -> Result<Answer, Stop>
+    fn send(&mut self, number: u64, s: u64, ready: &mut Ready<u64>) -> Result<Reply, Stop>
         requires next { self.old.next ≤ number }
         requires room { registered self.old.hall ≤ ready.old.registered }
         ensures { CountActs self.old number (Send s) result self.new ready.old ready.new }
@@ -275,11 +269,11 @@ impl<C: CountCore> CountPart<C> {
         };
         self.points.at_mut(*o).arrive(1, ready);
         self.next = number as u128 + 1;
-        Ok(Answer::Done)
+        Ok(Reply(Word::Done))
     }
 
     // Makes a future on the signal; a plain one borrows the holder. On an error nothing has changed.
-    fn begin(&mut self, number: u64, k: u64, form: Form) -> Result<Answer, Stop>
+    fn begin(&mut self, number: u64, k: u64, form: Form) -> Result<Reply, Stop>
         requires { self.old.next ≤ number }
         ensures { CountActsQuietly self.old number (Begin k (is_plain form)) result self.new }
     {
@@ -294,11 +288,11 @@ impl<C: CountCore> CountPart<C> {
         holder.borrowers += one_if(plain);
         self.points.at_mut(holder.point).begin();
         self.next = number as u128 + 1;
-        Ok(Answer::Made)
+        Ok(Reply(Word::Made))
     }
 
     // Makes a further future on the end of the members, beside another. On an error nothing has changed.
-    fn copy(&mut self, number: u64, f: u64) -> Result<Answer, Stop>
+    fn copy(&mut self, number: u64, f: u64) -> Result<Reply, Stop>
         requires { self.old.next ≤ number }
         ensures { CountActsQuietly self.old number (Copy f) result self.new }
     {
@@ -311,11 +305,11 @@ impl<C: CountCore> CountPart<C> {
         };
         self.points.at_mut(o).begin();
         self.next = number as u128 + 1;
-        Ok(Answer::Made)
+        Ok(Reply(Word::Made))
     }
 
     // Makes a further holder, counted as the one beside it. On an error nothing has changed.
-    fn join(&mut self, number: u64, k: u64) -> Result<Answer, Stop>
+    fn join(&mut self, number: u64, k: u64) -> Result<Reply, Stop>
         requires { self.old.next ≤ number }
         ensures { CountActsQuietly self.old number (Join k) result self.new }
     {
@@ -327,7 +321,7 @@ impl<C: CountCore> CountPart<C> {
     }
 
     // Makes a further holder that is not counted, beside one that is. On an error nothing has changed.
-    fn watch(&mut self, number: u64, k: u64) -> Result<Answer, Stop>
+    fn watch(&mut self, number: u64, k: u64) -> Result<Reply, Stop>
         requires { self.old.next ≤ number }
         ensures { CountActsQuietly self.old number (Watch k) result self.new }
     {
@@ -342,7 +336,7 @@ impl<C: CountCore> CountPart<C> {
     }
 
     // Makes a holder of a point, unless that counts as many as it can.
-    fn add(&mut self, number: u64, o: u64, counted: bool) -> Result<Answer, Stop>
+    fn add(&mut self, number: u64, o: u64, counted: bool) -> Result<Reply, Stop>
         requires next { self.old.next ≤ number }
         requires there { IsSome (map.get self.old.hall.points o) }
         requires lives { counted ≡ true → IfSome (map.get self.old.hall.points o) (λ r. 0 < r.members.number) }
@@ -362,12 +356,12 @@ impl<C: CountCore> CountPart<C> {
         };
         entry.join(counted);
         self.next = number as u128 + 1;
-        Ok(Answer::Made)
+        Ok(Reply(Word::Made))
     }
 
     // Makes a future on the end of the members of a holder, which ends. No future borrows one. On an error nothing has
     // changed.
-    fn into_wait(&mut self, number: u64, k: u64, ready: &mut Ready<u64>) -> Result<Answer, Stop>
+    fn into_wait(&mut self, number: u64, k: u64, ready: &mut Ready<u64>) -> Result<Reply, Stop>
         requires next { self.old.next ≤ number }
         requires free { BorrowNothing self.old.hall }
         requires room { registered self.old.hall ≤ ready.old.registered }
@@ -384,11 +378,11 @@ impl<C: CountCore> CountPart<C> {
         let _ = self.holders.remove(k);
         self.points.at_mut(holder.point).part(holder.counted, ready);
         self.next = number as u128 + 1;
-        Ok(Answer::Made)
+        Ok(Reply(Word::Made))
     }
 
     // Ends a holder that no future borrows. It takes no memory.
-    fn end_holder(&mut self, number: u64, k: u64, ready: &mut Ready<u64>) -> Result<Answer, Stop>
+    fn end_holder(&mut self, number: u64, k: u64, ready: &mut Ready<u64>) -> Result<Reply, Stop>
         requires next { self.old.next ≤ number }
         requires room { registered self.old.hall ≤ ready.old.registered }
         ensures { CountActs self.old number (EndHolder k) result self.new ready.old ready.new }
@@ -400,7 +394,7 @@ impl<C: CountCore> CountPart<C> {
     }
 
     // Ends a holder that is there, and that no future borrows. It takes no memory.
-    fn leave(&mut self, number: u64, k: u64, ready: &mut Ready<u64>) -> Answer
+    fn leave(&mut self, number: u64, k: u64, ready: &mut Ready<u64>) -> Reply
         requires next { self.old.next ≤ number }
         requires there { is_holder self.old.hall k ≡ true }
         requires free { (f : ℕ) (y : Wait) → map.get self.old.hall.waits f ≡ Some y → borrows y.awaits k ≡ false }
@@ -413,7 +407,7 @@ impl<C: CountCore> CountPart<C> {
         let over = entry.finish(ready);
         self.points.remove_if(holder.point, over);
         self.next = number as u128 + 1;
-        Answer::Done
+        Reply(Word::Done)
     }
 
     // Polls a future, which is gone where it is ready. On an error nothing has changed.
@@ -423,7 +417,7 @@ impl<C: CountCore> CountPart<C> {
         f: u64,
         waker: u64,
         ready: &mut Ready<u64>,
-    ) -> Result<Answer, Stop>
+    ) -> Result<Reply, Stop>
         requires next { self.old.next ≤ number }
         requires room { registered self.old.hall ≤ ready.old.registered }
         ensures { CountActs self.old number (PollIt f waker) result self.new ready.old ready.new }
@@ -437,7 +431,7 @@ impl<C: CountCore> CountPart<C> {
             Err(_) => Err(Stop::NoMemory),
             Ok(Poll::Pending) => {
                 self.next = number as u128 + 1;
-                Ok(Answer::Pending)
+                Ok(Reply(Word::Pending))
             }
             Ok(Poll::Ready(())) => {
                 give_back(&mut self.holders, future.wait.borrowed());
@@ -445,13 +439,13 @@ impl<C: CountCore> CountPart<C> {
                 self.points.remove_if(o, over);
                 let _ = self.waits.remove(f);
                 self.next = number as u128 + 1;
-                Ok(Answer::Ready)
+                Ok(Reply(Word::Ready))
             }
         }
     }
 
     // Ends a future; its waker stays while its point does. It takes no memory.
-    fn end_wait(&mut self, number: u64, f: u64, ready: &mut Ready<u64>) -> Result<Answer, Stop>
+    fn end_wait(&mut self, number: u64, f: u64, ready: &mut Ready<u64>) -> Result<Reply, Stop>
         requires next { self.old.next ≤ number }
         requires room { registered self.old.hall ≤ ready.old.registered }
         ensures { CountActs self.old number (EndWait f) result self.new ready.old ready.new }
@@ -463,11 +457,11 @@ impl<C: CountCore> CountPart<C> {
         let over = self.points.at_mut(future.point).finish(ready);
         self.points.remove_if(future.point, over);
         self.next = number as u128 + 1;
-        Ok(Answer::Done)
+        Ok(Reply(Word::Done))
     }
 
     // Ends a holder, or else a future, where no future borrows a holder. It takes no memory.
-    fn end_either(&mut self, number: u64, x: u64, ready: &mut Ready<u64>) -> Result<Answer, Stop>
+    fn end_either(&mut self, number: u64, x: u64, ready: &mut Ready<u64>) -> Result<Reply, Stop>
         requires next { self.old.next ≤ number }
         requires free { BorrowNothing self.old.hall }
         requires room { registered self.old.hall ≤ ready.old.registered }
@@ -481,7 +475,7 @@ impl<C: CountCore> CountPart<C> {
     }
 
     // Makes a further sender. On an error nothing has changed.
-    fn copy_sender(&mut self, number: u64, s: u64) -> Result<Answer, Stop>
+    fn copy_sender(&mut self, number: u64, s: u64) -> Result<Reply, Stop>
         requires { self.old.next ≤ number }
         ensures { CountActsQuietly self.old number (CopySender s) result self.new }
     {
@@ -494,11 +488,11 @@ impl<C: CountCore> CountPart<C> {
         };
         self.points.at_mut(o).begin();
         self.next = number as u128 + 1;
-        Ok(Answer::Made)
+        Ok(Reply(Word::Made))
     }
 
     // Makes a future on the end of the members of a sender, which ends. On an error nothing has changed.
-    fn await_members(&mut self, number: u64, s: u64) -> Result<Answer, Stop>
+    fn await_members(&mut self, number: u64, s: u64) -> Result<Reply, Stop>
         requires { self.old.next ≤ number }
         ensures { CountActsQuietly self.old number (Await s) result self.new }
     {
@@ -510,11 +504,11 @@ impl<C: CountCore> CountPart<C> {
         };
         let _ = self.senders.remove(s);
         self.next = number as u128 + 1;
-        Ok(Answer::Made)
+        Ok(Reply(Word::Made))
     }
 
     // Ends a sender. It takes no memory.
-    fn end_sender(&mut self, number: u64, s: u64, ready: &mut Ready<u64>) -> Result<Answer, Stop>
+    fn end_sender(&mut self, number: u64, s: u64, ready: &mut Ready<u64>) -> Result<Reply, Stop>
         requires next { self.old.next ≤ number }
         requires room { registered self.old.hall ≤ ready.old.registered }
         ensures { CountActs self.old number (EndSender s) result self.new ready.old ready.new }
@@ -525,13 +519,13 @@ impl<C: CountCore> CountPart<C> {
         let over = self.points.at_mut(o).finish(ready);
         self.points.remove_if(o, over);
         self.next = number as u128 + 1;
-        Ok(Answer::Done)
+        Ok(Reply(Word::Done))
     }
 }
 
 impl<C: NumberedCore> CountPart<C> {
     /// Tells the count of the signal, or finds why that is refused. It takes no memory.
-    pub fn number(&mut self, number: u64, k: u64) -> Result<Answer, Stop>
+    pub fn number(&mut self, number: u64, k: u64) -> Result<Reply, Stop>
         requires { self.old.next ≤ number }
         ensures { CountActsQuietly self.old number (Number k) result self.new }
     {
@@ -540,11 +534,11 @@ impl<C: NumberedCore> CountPart<C> {
         };
         let count = self.points.at(holder.point).core().number();
         self.next = number as u128 + 1;
-        Ok(Answer::Count(count as u64))
+        Ok(Reply(Word::Count(count as u64)))
     }
 
     /// Tells whether the count of the signal is 0, or else how much it is, or finds why that is refused. It takes no memory.
-    pub fn try_wait(&mut self, number: u64, k: u64) -> Result<Answer, Stop>
+    pub fn try_wait(&mut self, number: u64, k: u64) -> Result<Reply, Stop>
         requires { self.old.next ≤ number }
         ensures { CountActsQuietly self.old number (Try k) result self.new }
     {
@@ -558,12 +552,12 @@ impl<C: NumberedCore> CountPart<C> {
 }
 
 // What a try answers.
-fn accepted_at(count: u64) -> Answer
+fn accepted_at(count: u64) -> Reply
     ensures { result ≡ cond (count == 0) Answer.Accepted (Answer.Left count) }
 {
     if count == 0 {
-        Answer::Accepted
+        Reply(Word::Accepted)
     } else {
-        Answer::Left(count)
+        Reply(Word::Left(count))
     }
 }

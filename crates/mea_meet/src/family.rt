@@ -9,7 +9,7 @@ use crate::meaning::meaning_of;
 use mea_base::Ready;
 use mea_by_name::NamedWaker;
 use mea_events::MeetEvent;
-use mea_family::{Answer, Stop};
+use mea_family::{Reply, Stop};
 use mea_family_hall::{Family, FamilyHall};
 use mea_meet_core::{BarrierCore, GroupCore, LatchCore, ShutdownCore};
 use mea_meet_model::{validity_is_kept, wakes_are_of_the_registered, what_is_there_lives};
@@ -156,7 +156,7 @@ impl Family<MeetModel> for MeetFamily {
         number: u64,
         event: &MeetEvent,
         ready: &mut Ready<u64>,
-    ) -> Result<Answer, Stop> {
+    ) -> Result<Reply, Stop> {
         validity_is_kept();
         wakes_are_of_the_registered();
         let answer = self.kinds.act(number, meaning_of(event), ready)?;

@@ -10,7 +10,7 @@ use crate::count_part::CountPart;
 use crate::meaning::Meaning;
 use mea_base::Ready;
 use mea_by_name::NamedWaker;
-use mea_family::{Answer, Stop, unknown_unless};
+use mea_family::{Reply, Stop, unknown_unless};
 use mea_meet_core::{GroupCore, LatchCore, ShutdownCore};
 use std::alloc::Global;
 
@@ -56,7 +56,7 @@ impl Kinds {
         number: u64,
         meaning: Meaning,
         ready: &mut Ready<u64>,
-    ) -> Result<Answer, Stop>
+    ) -> Result<Reply, Stop>
         requires fits { FitsMeaning meaning }
         requires below { AreBelow self.old.barriers self.old.latches self.old.groups self.old.shutdowns number }
         requires alone { BorrowNothing self.old.groups.hall }

@@ -11,7 +11,7 @@ use crate::scripted::Scripted;
 use crate::turn_core::{TurnCore, WaitCore, WholeCore};
 use mea_base::{NoMemory, Poll, Ready};
 use mea_by_name::NamedWaker;
-use mea_family::Answer;
+use mea_family::{Reply, Word};
 use mea_once_core::{CellTurn, Init};
 use mea_once_model::{Errand, Initialiser, WholeUse};
 use std::marker::Model;
@@ -168,7 +168,7 @@ impl<C: TurnCore> CellEntry<C> {
                 self.core.give_up(&mut future.stage);
                 self.finish(waker.future, future.errand);
                 PollReply {
-                    answer: Answer::Failure(error),
+                    answer: Reply(Word::Failure(error)),
                     over: true,
                 }
             }
@@ -287,7 +287,7 @@ fn wait_told(over: bool) -> PollReply
     ensures { result ≡ record { answer = cond over Answer.Ready Answer.Pending; over = over } }
 {
     PollReply {
-        answer: if over { Answer::Ready } else { Answer::Pending },
+        answer: Reply(if over { Word::Ready } else { Word::Pending }),
         over,
     }
 }
@@ -364,7 +364,7 @@ impl<C: WholeCore> CellEntry<C> {
             Poll::Ready(Err(error)) => {
                 self.finish(waker.future, errand);
                 PollReply {
-                    answer: Answer::Failure(error),
+                    answer: Reply(Word::Failure(error)),
                     over: true,
                 }
             }
@@ -400,7 +400,7 @@ impl<C: WholeCore> CellEntry<C> {
     }
 
     /// Uses the value, for who has the whole cell, and replies.
-    pub fn use_whole(&mut self, what: WholeUse) -> Answer
+    pub fn use_whole(&mut self, what: WholeUse) -> Reply
         requires { self.old.cell.permit.free ≡ 1 }
         ensures reply { result ≡ reply_to what self.old.cell.value }
         ensures is { self.new ≡ record self.old { cell = record self.old.cell { value = value_after what self.old.cell.value } } }

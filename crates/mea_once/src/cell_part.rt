@@ -16,7 +16,7 @@ use crate::polled_core::PolledCore;
 use crate::turn_core::{TurnCore, WholeCore};
 use mea_base::Ready;
 use mea_by_name::ByName;
-use mea_family::{Answer, Stop, borrowed_if, unknown_unless};
+use mea_family::{Reply, Stop, Word, borrowed_if, unknown_unless};
 use mea_meet_core::LatchWait;
 use mea_once_core::CellStage;
 use mea_once_model::{Errand, Initialiser, WholeUse};
@@ -142,7 +142,7 @@ impl<C: TurnCore> CellPart<C> {
     }
 
     // Makes a cell of a new core. On an error nothing has changed.
-    fn make(&mut self, number: u64, core: C) -> Result<Answer, Stop>
+    fn make(&mut self, number: u64, core: C) -> Result<Reply, Stop>
         requires next { self.old.next ≤ number }
         requires new { IsNewCell (C.seen_as core) (C.seen_as core).value }
         ensures { CellActsQuietly self.old number (Make (C.seen_as core).value) result self.new }
@@ -151,11 +151,11 @@ impl<C: TurnCore> CellPart<C> {
             return Err(Stop::NoMemory);
         };
         self.next = number as u128 + 1;
-        Ok(Answer::Made)
+        Ok(Reply(Word::Made))
     }
 
     // Makes a future that does this. On an error nothing has changed.
-    fn begin(&mut self, number: u64, o: u64, errand: Errand) -> Result<Answer, Stop>
+    fn begin(&mut self, number: u64, o: u64, errand: Errand) -> Result<Reply, Stop>
         requires next { self.old.next ≤ number }
         requires fits { fits C.is_once errand ≡ true }
         ensures { CellActsQuietly self.old number (Begin o errand) result self.new }
@@ -177,7 +177,7 @@ impl<C: TurnCore> CellPart<C> {
         };
         entry.begin(errand);
         self.next = number as u128 + 1;
-        Ok(Answer::Made)
+        Ok(Reply(Word::Made))
     }
 
     // Settles the initialiser of a future. It takes no memory.
@@ -187,7 +187,7 @@ impl<C: TurnCore> CellPart<C> {
         f: u64,
         outcome: Initialiser,
         ready: &mut Ready<u64>,
-    ) -> Result<Answer, Stop>
+    ) -> Result<Reply, Stop>
         requires next { self.old.next ≤ number }
         requires fits { FitsSettled C.is_once outcome }
         requires room { registered self.old.hall ≤ ready.old.registered }
@@ -202,11 +202,11 @@ impl<C: TurnCore> CellPart<C> {
         let entry = self.cells.at_mut(future.cell);
         entry.settle(f, future, outcome, ready);
         self.next = number as u128 + 1;
-        Ok(Answer::Done)
+        Ok(Reply(Word::Done))
     }
 
     // Ends a future. It takes no memory.
-    fn end(&mut self, number: u64, f: u64, ready: &mut Ready<u64>) -> Result<Answer, Stop>
+    fn end(&mut self, number: u64, f: u64, ready: &mut Ready<u64>) -> Result<Reply, Stop>
         requires next { self.old.next ≤ number }
         requires room { registered self.old.hall ≤ ready.old.registered }
         ensures { CellActs self.old number (End f) result self.new ready.old ready.new }
@@ -217,11 +217,11 @@ impl<C: TurnCore> CellPart<C> {
         let entry = self.cells.at_mut(future.cell);
         entry.end(f, future, ready);
         self.next = number as u128 + 1;
-        Ok(Answer::Done)
+        Ok(Reply(Word::Done))
     }
 
     // Tells whether a cell is full. It takes no memory.
-    fn tell_full(&mut self, number: u64, o: u64) -> Result<Answer, Stop>
+    fn tell_full(&mut self, number: u64, o: u64) -> Result<Reply, Stop>
         requires { self.old.next ≤ number }
         ensures { CellActsQuietly self.old number (TellFull o) result self.new }
     {
@@ -237,7 +237,7 @@ impl<C: TurnCore> CellPart<C> {
     }
 
     // Tells the value of a cell. It takes no memory.
-    fn tell(&mut self, number: u64, o: u64) -> Result<Answer, Stop>
+    fn tell(&mut self, number: u64, o: u64) -> Result<Reply, Stop>
         requires { self.old.next ≤ number }
         ensures { CellActsQuietly self.old number (Tell o) result self.new }
     {
@@ -253,7 +253,7 @@ impl<C: TurnCore> CellPart<C> {
     }
 
     // Ends a cell that has no future; who waits until it is full is forgotten. It takes no memory.
-    fn end_cell(&mut self, number: u64, o: u64, ready: &mut Ready<u64>) -> Result<Answer, Stop>
+    fn end_cell(&mut self, number: u64, o: u64, ready: &mut Ready<u64>) -> Result<Reply, Stop>
         requires next { self.old.next ≤ number }
         requires room { registered self.old.hall ≤ ready.old.registered }
         ensures { CellActs self.old number (Drop o) result self.new ready.old ready.new }
@@ -265,7 +265,7 @@ impl<C: TurnCore> CellPart<C> {
         let kept = entry.keeps(ready);
         ready.unregister(kept);
         self.next = number as u128 + 1;
-        Ok(Answer::Done)
+        Ok(Reply(Word::Done))
     }
 }
 
@@ -277,7 +277,7 @@ impl<C: PolledCore> CellPart<C> {
         number: u64,
         action: TurnAction,
         ready: &mut Ready<u64>,
-    ) -> Result<Answer, Stop>
+    ) -> Result<Reply, Stop>
         requires next { self.old.next ≤ number }
         requires fits { FitsTurn C.TurnCore.is_once action }
         requires room { registered self.old.hall ≤ ready.old.registered }
@@ -302,7 +302,7 @@ impl<C: PolledCore> CellPart<C> {
         f: u64,
         waker: u64,
         ready: &mut Ready<u64>,
-    ) -> Result<Answer, Stop>
+    ) -> Result<Reply, Stop>
         requires next { self.old.next ≤ number }
         requires room { registered self.old.hall ≤ ready.old.registered }
         ensures { CellActs self.old number (Poll f waker) result self.new ready.old ready.new }
@@ -337,7 +337,7 @@ impl<C: WholeCore> CellPart<C> {
         number: u64,
         action: WholeAction,
         ready: &mut Ready<u64>,
-    ) -> Result<Answer, Stop>
+    ) -> Result<Reply, Stop>
         requires next { self.old.next ≤ number }
         requires room { registered self.old.hall ≤ ready.old.registered }
         ensures { CellActs self.old number (whole_action action) result self.new ready.old ready.new }
@@ -350,7 +350,7 @@ impl<C: WholeCore> CellPart<C> {
     }
 
     // Uses the value of a cell that has no future. It takes no memory.
-    fn use_whole(&mut self, number: u64, o: u64, what: WholeUse) -> Result<Answer, Stop>
+    fn use_whole(&mut self, number: u64, o: u64, what: WholeUse) -> Result<Reply, Stop>
         requires { self.old.next ≤ number }
         ensures { CellActsQuietly self.old number (Use o what) result self.new }
     {
@@ -366,7 +366,7 @@ impl<C: WholeCore> CellPart<C> {
     }
 
     // Ends a cell that has no future, with its value. It takes no memory.
-    fn take_out(&mut self, number: u64, o: u64, ready: &mut Ready<u64>) -> Result<Answer, Stop>
+    fn take_out(&mut self, number: u64, o: u64, ready: &mut Ready<u64>) -> Result<Reply, Stop>
         requires next { self.old.next ≤ number }
         requires room { registered self.old.hall ≤ ready.old.registered }
         ensures { CellActs self.old number (TakeOut o) result self.new ready.old ready.new }

@@ -8,7 +8,7 @@ use crate::scripted::Scripted;
 use crate::turn_core::{TurnCore, WholeCore};
 use mea_base::{NoMemory, Poll};
 use mea_by_name::NamedWaker;
-use mea_family::Answer;
+use mea_family::{Reply, Word};
 use mea_once_core::{CellCore, CellStage, CellTurn, InitCall};
 use mea_once_model::WholeUse;
 use std::alloc::Global;
@@ -79,7 +79,7 @@ impl WholeCore for CellCore<u64, NamedWaker> {
         CellCore::poll_mut(self, init, waker)
     }
 
-    fn use_whole(&mut self, what: WholeUse) -> Answer {
+    fn use_whole(&mut self, what: WholeUse) -> Reply {
         match what {
             WholeUse::Tells => content(self.value()),
             WholeUse::Writes(value) => write_value(self, value),
@@ -93,7 +93,7 @@ impl WholeCore for CellCore<u64, NamedWaker> {
 }
 
 // Writes the value of a cell where there is one.
-fn write_value(core: &mut CellCore<u64, NamedWaker>, value: u64) -> Answer
+fn write_value(core: &mut CellCore<u64, NamedWaker>, value: u64) -> Reply
     requires { core.old.permit.free ≡ 1 }
     ensures reply { result ≡ reply_to (Writes value) core.old.value }
     ensures is { core.new ≡ record core.old { value = value_after (Writes value) core.old.value } }
@@ -103,8 +103,8 @@ fn write_value(core: &mut CellCore<u64, NamedWaker>, value: u64) -> Answer
     match CellCore::get_mut(core) {
         Some(there) => {
             *there = value;
-            Answer::Done
+            Reply(Word::Done)
         }
-        None => Answer::Lacking,
+        None => Reply(Word::Lacking),
     }
 }

@@ -3,7 +3,7 @@ ghost use Rattle.mea_family.specs.Play.{content};
 ghost use Rattle.mea_once_model.specs.Cells.{is_alone, can_settle, found_full, has_filled, settled, init_of};
 ghost use Rattle.mea_once.specs.Parts.{is_wait};
 
-use mea_family::Answer;
+use mea_family::{Reply, Word};
 use mea_once_model::{Errand, Initialiser};
 
 /// Whether it uses its cell alone.
@@ -71,44 +71,44 @@ pub fn settled(errand: Errand, outcome: Initialiser) -> Errand
 }
 
 /// The reply where its cell was full.
-pub fn found_full(errand: Errand, value: u64) -> Answer
+pub fn found_full(errand: Errand, value: u64) -> Reply
     ensures { result ≡ found_full errand value }
 {
     match errand {
-        Errand::Calls(_) | Errand::Awaits => Answer::Ready,
-        Errand::Computes(_) | Errand::Alone(_) => Answer::Value(value),
-        Errand::Sets(v) => Answer::Back(v),
-        Errand::Inserts(v) => Answer::Kept(value, v),
+        Errand::Calls(_) | Errand::Awaits => Reply(Word::Ready),
+        Errand::Computes(_) | Errand::Alone(_) => Reply(Word::Value(value)),
+        Errand::Sets(v) => Reply(Word::Back(v)),
+        Errand::Inserts(v) => Reply(Word::Kept(value, v)),
     }
 }
 
 /// The reply where it filled its cell.
-pub fn has_filled(errand: Errand, value: u64) -> Answer
+pub fn has_filled(errand: Errand, value: u64) -> Reply
     ensures { result ≡ has_filled errand value }
 {
     match errand {
-        Errand::Calls(_) | Errand::Awaits => Answer::Ready,
-        Errand::Sets(_) => Answer::Accepted,
-        Errand::Computes(_) | Errand::Alone(_) | Errand::Inserts(_) => Answer::Value(value),
+        Errand::Calls(_) | Errand::Awaits => Reply(Word::Ready),
+        Errand::Sets(_) => Reply(Word::Accepted),
+        Errand::Computes(_) | Errand::Alone(_) | Errand::Inserts(_) => Reply(Word::Value(value)),
     }
 }
 
 /// The reply that tells what is there.
-pub fn content(value: Option<u64>) -> Answer
+pub fn content(value: Option<u64>) -> Reply
     ensures { result ≡ content value }
 {
     match value {
-        Some(v) => Answer::Value(v),
-        None => Answer::Lacking,
+        Some(v) => Reply(Word::Value(v)),
+        None => Reply(Word::Lacking),
     }
 }
 
 /// The reply that tells whether there is a value.
-pub fn yes_if_full(value: Option<u64>) -> Answer
+pub fn yes_if_full(value: Option<u64>) -> Reply
     ensures { result ≡ (if is_some value then Answer.Yes else Answer.No) }
 {
     match value {
-        Some(_) => Answer::Yes,
-        None => Answer::No,
+        Some(_) => Reply(Word::Yes),
+        None => Reply(Word::No),
     }
 }

@@ -11,7 +11,7 @@ use crate::meaning::meaning_of;
 use mea_base::Ready;
 use mea_by_name::NamedWaker;
 use mea_events::OnceEvent;
-use mea_family::{Answer, Stop};
+use mea_family::{Reply, Stop};
 use mea_family_hall::{Family, FamilyHall};
 use mea_once_core::{CellCore, OnceCore};
 use mea_once_model::wakes_are_of_the_registered;
@@ -145,7 +145,7 @@ impl Family<OnceModel> for OnceFamily {
         number: u64,
         event: &OnceEvent,
         ready: &mut Ready<u64>,
-    ) -> Result<Answer, Stop> {
+    ) -> Result<Reply, Stop> {
         wakes_are_of_the_registered();
         let answer = self.kinds.act(number, meaning_of(event), ready)?;
         self.next = number as u128 + 1;

@@ -16,7 +16,7 @@ use crate::table_core::{TableCore, ValueCore};
 use crate::table_entry::TableEntry;
 use mea_base::Ready;
 use mea_by_name::ByName;
-use mea_family::{Answer, Stop, borrowed_if, unknown_unless};
+use mea_family::{Reply, Stop, Word, borrowed_if, unknown_unless};
 use mea_once_core::KeyCall;
 use mea_once_model::Initialiser;
 use std::alloc::Global;
@@ -100,7 +100,7 @@ impl<C: TableCore> KeyPart<C> {
         number: u64,
         action: TableAction,
         ready: &mut Ready<u64>,
-    ) -> Result<Answer, Stop>
+    ) -> Result<Reply, Stop>
         requires next { self.old.next ≤ number }
         requires room { registered self.old.hall ≤ ready.old.registered }
         ensures { KeyActs C.is_once self.old number (table_action action) result self.new ready.old ready.new }
@@ -150,7 +150,7 @@ impl<C: TableCore> KeyPart<C> {
     }
 
     // Makes a map or a group of a new core. On an error nothing has changed.
-    fn make(&mut self, number: u64, core: C) -> Result<Answer, Stop>
+    fn make(&mut self, number: u64, core: C) -> Result<Reply, Stop>
         requires next { self.old.next ≤ number }
         requires new { IsNewKeyed (C.seen_as core) }
         ensures { KeyActsQuietly C.is_once self.old number MakeTable result self.new }
@@ -160,11 +160,11 @@ impl<C: TableCore> KeyPart<C> {
             return Err(Stop::NoMemory);
         };
         self.next = number as u128 + 1;
-        Ok(Answer::Made)
+        Ok(Reply(Word::Made))
     }
 
     // Makes a future that computes the value of a key. On an error nothing has changed.
-    fn begin(&mut self, number: u64, o: u64, key: u64) -> Result<Answer, Stop>
+    fn begin(&mut self, number: u64, o: u64, key: u64) -> Result<Reply, Stop>
         requires { self.old.next ≤ number }
         ensures { KeyActsQuietly C.is_once self.old number (BeginKey o key) result self.new }
     {
@@ -182,7 +182,7 @@ impl<C: TableCore> KeyPart<C> {
         };
         entry.begin();
         self.next = number as u128 + 1;
-        Ok(Answer::Made)
+        Ok(Reply(Word::Made))
     }
 
     // Polls a future. On an error nothing has changed.
@@ -192,7 +192,7 @@ impl<C: TableCore> KeyPart<C> {
         f: u64,
         waker: u64,
         ready: &mut Ready<u64>,
-    ) -> Result<Answer, Stop>
+    ) -> Result<Reply, Stop>
         requires next { self.old.next ≤ number }
         requires room { registered self.old.hall ≤ ready.old.registered }
         ensures { KeyActs C.is_once self.old number (PollKey f waker) result self.new ready.old ready.new }
@@ -216,7 +216,7 @@ impl<C: TableCore> KeyPart<C> {
         f: u64,
         outcome: Initialiser,
         ready: &mut Ready<u64>,
-    ) -> Result<Answer, Stop>
+    ) -> Result<Reply, Stop>
         requires next { self.old.next ≤ number }
         requires room { registered self.old.hall ≤ ready.old.registered }
         ensures { KeyActs C.is_once self.old number (SettleKey f outcome) result self.new ready.old ready.new }
@@ -230,11 +230,11 @@ impl<C: TableCore> KeyPart<C> {
         let entry = self.tables.at_mut(future.table);
         entry.settle(f, future, outcome, ready);
         self.next = number as u128 + 1;
-        Ok(Answer::Done)
+        Ok(Reply(Word::Done))
     }
 
     // Ends a future. It takes no memory.
-    fn end(&mut self, number: u64, f: u64, ready: &mut Ready<u64>) -> Result<Answer, Stop>
+    fn end(&mut self, number: u64, f: u64, ready: &mut Ready<u64>) -> Result<Reply, Stop>
         requires next { self.old.next ≤ number }
         requires room { registered self.old.hall ≤ ready.old.registered }
         ensures { KeyActs C.is_once self.old number (EndKey f) result self.new ready.old ready.new }
@@ -245,11 +245,11 @@ impl<C: TableCore> KeyPart<C> {
         let entry = self.tables.at_mut(future.table);
         entry.end(f, future, ready);
         self.next = number as u128 + 1;
-        Ok(Answer::Done)
+        Ok(Reply(Word::Done))
     }
 
     // Takes a key out. It takes no memory.
-    fn discard(&mut self, number: u64, o: u64, key: u64) -> Result<Answer, Stop>
+    fn discard(&mut self, number: u64, o: u64, key: u64) -> Result<Reply, Stop>
         requires { self.old.next ≤ number }
         ensures { KeyActsQuietly C.is_once self.old number (DiscardKey o key) result self.new }
     {
@@ -258,11 +258,11 @@ impl<C: TableCore> KeyPart<C> {
         };
         entry.discard(key);
         self.next = number as u128 + 1;
-        Ok(Answer::Done)
+        Ok(Reply(Word::Done))
     }
 
     // Ends a map or a group that has no future. It takes no memory.
-    fn end_table(&mut self, number: u64, o: u64) -> Result<Answer, Stop>
+    fn end_table(&mut self, number: u64, o: u64) -> Result<Reply, Stop>
         requires { self.old.next ≤ number }
         ensures { KeyActsQuietly C.is_once self.old number (DropTable o) result self.new }
     {
@@ -271,7 +271,7 @@ impl<C: TableCore> KeyPart<C> {
         }
         let _ = self.tables.remove(o);
         self.next = number as u128 + 1;
-        Ok(Answer::Done)
+        Ok(Reply(Word::Done))
     }
 }
 
@@ -288,7 +288,7 @@ impl<C: ValueCore> KeyPart<C> {
     }
 
     /// Does an action, or finds why it is refused. On an error nothing has changed. It takes no memory.
-    pub fn act_value(&mut self, number: u64, action: ValueAction) -> Result<Answer, Stop>
+    pub fn act_value(&mut self, number: u64, action: ValueAction) -> Result<Reply, Stop>
         requires { self.old.next ≤ number }
         ensures { KeyActsQuietly C.TableCore.is_once self.old number (value_action action) result self.new }
     {
@@ -299,7 +299,7 @@ impl<C: ValueCore> KeyPart<C> {
     }
 
     // Tells the value of a key. It takes no memory.
-    fn tell(&mut self, number: u64, o: u64, key: u64) -> Result<Answer, Stop>
+    fn tell(&mut self, number: u64, o: u64, key: u64) -> Result<Reply, Stop>
         requires { self.old.next ≤ number }
         ensures { KeyActsQuietly C.TableCore.is_once self.old number (TellKey o key) result self.new }
     {
@@ -312,7 +312,7 @@ impl<C: ValueCore> KeyPart<C> {
     }
 
     // Takes a key out, and tells its value. It takes no memory.
-    fn remove(&mut self, number: u64, o: u64, key: u64) -> Result<Answer, Stop>
+    fn remove(&mut self, number: u64, o: u64, key: u64) -> Result<Reply, Stop>
         requires { self.old.next ≤ number }
         ensures { KeyActsQuietly C.TableCore.is_once self.old number (RemoveKey o key) result self.new }
     {

@@ -13,7 +13,7 @@ use crate::maps::NamedMap;
 use crate::meaning::Meaning;
 use mea_base::Ready;
 use mea_by_name::NamedWaker;
-use mea_family::{Answer, Stop};
+use mea_family::{Reply, Stop};
 use mea_once_core::{CellCore, OnceCore};
 use std::alloc::Global;
 
@@ -70,7 +70,7 @@ impl Kinds {
         number: u64,
         meaning: Meaning,
         ready: &mut Ready<u64>,
-    ) -> Result<Answer, Stop>
+    ) -> Result<Reply, Stop>
         requires fits { FitsMeaning meaning }
         requires below { AreBelow (parts self.old.onces self.old.cells self.old.maps self.old.groups) number }
         requires room { registered (hall_of (parts self.old.onces self.old.cells self.old.maps self.old.groups)) ≤ ready.old.registered }

@@ -1,14 +1,14 @@
-use mea_family::Answer;
+use mea_family::{Reply, Word};
 
 /// What a poll told: its reply, and whether its future is over.
-#[derive(Clone, Copy)]
+#[derive(Drop)]
 pub struct PollReply {
-    pub answer: Answer,
+    pub answer: Reply,
     pub over: bool,
 }
 
 /// What a poll tells whose future waits on.
 pub const PENDING: PollReply = PollReply {
-    answer: Answer::Pending,
+    answer: Reply(Word::Pending),
     over: false,
 };

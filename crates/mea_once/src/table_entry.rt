@@ -14,7 +14,7 @@ use crate::round::Round;
 use crate::table_core::{TableCore, ValueCore};
 use mea_base::{NoMemory, Poll, Ready};
 use mea_by_name::{ByName, NamedWaker, Roomy};
-use mea_family::Answer;
+use mea_family::{Reply, Word};
 use mea_once_core::{CellStage, KeyStage};
 use mea_once_model::Initialiser;
 use std::alloc::Global;
@@ -271,7 +271,7 @@ impl<C: TableCore> TableEntry<C> {
                 self.leave(future.key, n, round);
                 self.finish();
                 PollReply {
-                    answer: Answer::Value(value),
+                    answer: Reply(Word::Value(value)),
                     over: true,
                 }
             }
@@ -279,7 +279,7 @@ impl<C: TableCore> TableEntry<C> {
                 self.leave(future.key, n, round);
                 self.finish();
                 PollReply {
-                    answer: Answer::Failure(error),
+                    answer: Reply(Word::Failure(error)),
                     over: true,
                 }
             }

@@ -9,7 +9,7 @@ ghost use Rattle.mea_once.specs.Cores.{NamedCell, IsSoundCell, TurnsCell, FillsC
 use crate::scripted::Scripted;
 use mea_base::{NoMemory, Poll};
 use mea_by_name::NamedWaker;
-use mea_family::Answer;
+use mea_family::Reply;
 use mea_meet_core::LatchWait;
 use mea_once_core::{CellStage, CellTurn};
 use mea_once_model::WholeUse;
@@ -108,7 +108,7 @@ pub trait WholeCore: TurnCore {
         ensures sound { IsSoundCell (Self.seen_as self.new) };
 
     /// Uses the value, and replies.
-    fn use_whole(&mut self, what: WholeUse) -> Answer
+    fn use_whole(&mut self, what: WholeUse) -> Reply
         requires { (Self.seen_as self.old).permit.free ≡ 1 }
         ensures reply { result ≡ reply_to what (Self.seen_as self.old).value }
         ensures is { Self.seen_as self.new ≡ record (Self.seen_as self.old) { value = value_after what (Self.seen_as self.old).value } }

@@ -7,7 +7,7 @@ use crate::meaning::meaning_of;
 use crate::part::SharePart;
 use mea_base::Ready;
 use mea_events::ShareEvent;
-use mea_family::{Answer, Stop};
+use mea_family::{Reply, Stop};
 use mea_family_hall::{Family, FamilyHall};
 use mea_share_model::wakes_are_of_the_registered;
 use std::alloc::Global;
@@ -108,7 +108,7 @@ impl Family<ShareModel> for ShareFamily {
         number: u64,
         event: &ShareEvent,
         ready: &mut Ready<u64>,
-    ) -> Result<Answer, Stop> {
+    ) -> Result<Reply, Stop> {
         wakes_are_of_the_registered();
         self.admissions.act(number, meaning_of(event), ready)
     }

@@ -18,7 +18,7 @@ use crate::future_entry::FutureEntry;
 use crate::permit_entry::PermitEntry;
 use mea_base::{Poll, Ready};
 use mea_by_name::{ByName, Roomy};
-use mea_family::{Answer, Form, Stop, borrowed_if, unknown_unless, zero_if};
+use mea_family::{Form, Reply, Stop, Word, borrowed_if, unknown_unless, zero_if};
 use mea_share_core::SharedKey;
 use std::alloc::Global;
 use std::marker::Model;
@@ -150,7 +150,7 @@ impl SharePart {
         number: u64,
         action: ShareAction,
         ready: &mut Ready<u64>,
-    ) -> Result<Answer, Stop>
+    ) -> Result<Reply, Stop>
         requires next { self.old.next ≤ number }
         requires room { registered self.old.hall ≤ ready.old.registered }
         ensures { Acts self.old number (meant action) result self.new ready.old ready.new }
@@ -171,7 +171,7 @@ impl SharePart {
     }
 
     // Makes an admission with this many permits.
-    fn make(&mut self, number: u64, permits: u64) -> Result<Answer, Stop>
+    fn make(&mut self, number: u64, permits: u64) -> Result<Reply, Stop>
         requires { self.old.next ≤ number }
         ensures { ActsQuietly self.old number (Make permits) result self.new }
     {
@@ -183,11 +183,11 @@ impl SharePart {
             return Err(Stop::NoMemory);
         };
         self.next = number as u128 + 1;
-        Ok(Answer::Made)
+        Ok(Reply(Word::Made))
     }
 
     // Tells the free permits. It takes no memory.
-    fn free(&mut self, number: u64, o: u64) -> Result<Answer, Stop>
+    fn free(&mut self, number: u64, o: u64) -> Result<Reply, Stop>
         requires { self.old.next ≤ number }
         ensures { ActsQuietly self.old number (Free o) result self.new }
     {
@@ -196,11 +196,11 @@ impl SharePart {
         };
         let free = entry.core().available_permits();
         self.next = number as u128 + 1;
-        Ok(Answer::Free(free as u64))
+        Ok(Reply(Word::Free(free as u64)))
     }
 
     // Tells how many futures wait. It takes no memory.
-    fn waiters(&mut self, number: u64, o: u64) -> Result<Answer, Stop>
+    fn waiters(&mut self, number: u64, o: u64) -> Result<Reply, Stop>
         requires { self.old.next ≤ number }
         ensures { ActsQuietly self.old number (Waiters o) result self.new }
     {
@@ -209,11 +209,11 @@ impl SharePart {
         };
         let waiters = entry.core().num_waiters();
         self.next = number as u128 + 1;
-        Ok(Answer::Count(waiters as u64))
+        Ok(Reply(Word::Count(waiters as u64)))
     }
 
     // Tells the key of a permit. It takes no memory.
-    fn key(&mut self, number: u64, p: u64) -> Result<Answer, Stop>
+    fn key(&mut self, number: u64, p: u64) -> Result<Reply, Stop>
         requires { self.old.next ≤ number }
         ensures { ActsQuietly self.old number (Key p) result self.new }
     {
@@ -222,11 +222,11 @@ impl SharePart {
         };
         let key = *permit.key().key();
         self.next = number as u128 + 1;
-        Ok(Answer::Key(key))
+        Ok(Reply(Word::Key(key)))
     }
 
     // Tells the weight of a key.
-    fn weight(&mut self, number: u64, o: u64, k: u64) -> Result<Answer, Stop>
+    fn weight(&mut self, number: u64, o: u64, k: u64) -> Result<Reply, Stop>
         requires { self.old.next ≤ number }
         ensures { ActsQuietly self.old number (Weight o k) result self.new }
     {
@@ -238,11 +238,11 @@ impl SharePart {
         };
         let weight = entry.core().weight(&key);
         self.next = number as u128 + 1;
-        Ok(Answer::Count(weight))
+        Ok(Reply(Word::Count(weight)))
     }
 
     // Sets the weight of a key.
-    fn set_weight(&mut self, number: u64, o: u64, k: u64, weight: u64) -> Result<Answer, Stop>
+    fn set_weight(&mut self, number: u64, o: u64, k: u64, weight: u64) -> Result<Reply, Stop>
         requires { self.old.next ≤ number }
         ensures { ActsQuietly self.old number (Weigh o k weight) result self.new }
     {
@@ -259,11 +259,11 @@ impl SharePart {
             return Err(Stop::NoMemory);
         };
         self.next = number as u128 + 1;
-        Ok(Answer::Done)
+        Ok(Reply(Word::Done))
     }
 
     // Makes a future of a permit for a key.
-    fn begin(&mut self, number: u64, o: u64, k: u64, form: Form) -> Result<Answer, Stop>
+    fn begin(&mut self, number: u64, o: u64, k: u64, form: Form) -> Result<Reply, Stop>
         requires { self.old.next ≤ number }
         ensures { ActsQuietly self.old number (Begin o k (is_plain form)) result self.new }
     {
@@ -282,11 +282,11 @@ impl SharePart {
         };
         entry.begin(plain);
         self.next = number as u128 + 1;
-        Ok(Answer::Made)
+        Ok(Reply(Word::Made))
     }
 
     // Takes a permit for a key, where one is free and nobody waits. Room for the permit is made before it is taken.
-    fn try_acquire(&mut self, number: u64, o: u64, k: u64, form: Form) -> Result<Answer, Stop>
+    fn try_acquire(&mut self, number: u64, o: u64, k: u64, form: Form) -> Result<Reply, Stop>
         requires { self.old.next ≤ number }
         ensures { ActsQuietly self.old number (Try o k (is_plain form)) result self.new }
     {
@@ -299,7 +299,7 @@ impl SharePart {
         }
         if entry.core().available_permits() == 0 {
             self.next = number as u128 + 1;
-            return Ok(Answer::Lacking);
+            return Ok(Reply(Word::Lacking));
         }
         let Ok((key, permit)) = PermitEntry::new(self.alloc, o, k, plain) else {
             return Err(Stop::NoMemory);
@@ -313,7 +313,7 @@ impl SharePart {
         self.permits.insert(number, permit);
         entry.begin(plain);
         self.next = number as u128 + 1;
-        Ok(Answer::Held)
+        Ok(Reply(Word::Held))
     }
 
     // Polls a future. Room for the permit is made first, but for one that begins to wait.
@@ -323,7 +323,7 @@ impl SharePart {
         f: u64,
         waker: u64,
         ready: &mut Ready<u64>,
-    ) -> Result<Answer, Stop>
+    ) -> Result<Reply, Stop>
         requires { self.old.next ≤ number }
         ensures { Acts self.old number (PollIt f waker) result self.new ready.old ready.new }
     {
@@ -336,7 +336,7 @@ impl SharePart {
                 return Err(Stop::NoMemory);
             };
             self.next = number as u128 + 1;
-            return Ok(Answer::Pending);
+            return Ok(Reply(Word::Pending));
         }
         let Ok(permit) = future.permit() else {
             return Err(Stop::NoMemory);
@@ -348,19 +348,19 @@ impl SharePart {
             Err(_) => Err(Stop::NoMemory),
             Ok(Poll::Pending) => {
                 self.next = number as u128 + 1;
-                Ok(Answer::Pending)
+                Ok(Reply(Word::Pending))
             }
             Ok(Poll::Ready(())) => {
                 self.permits.insert(number, permit);
                 let _ = self.futures.remove(f);
                 self.next = number as u128 + 1;
-                Ok(Answer::Ready)
+                Ok(Reply(Word::Ready))
             }
         }
     }
 
     // Ends a future, or else a permit. It takes no memory.
-    fn end(&mut self, number: u64, x: u64, ready: &mut Ready<u64>) -> Result<Answer, Stop>
+    fn end(&mut self, number: u64, x: u64, ready: &mut Ready<u64>) -> Result<Reply, Stop>
         requires next { self.old.next ≤ number }
         requires room { registered self.old.hall ≤ ready.old.registered }
         ensures { Acts self.old number (End x) result self.new ready.old ready.new }
@@ -376,11 +376,11 @@ impl SharePart {
         let over = entry.is_over();
         self.admissions.remove_if(o, over);
         self.next = number as u128 + 1;
-        Ok(Answer::Done)
+        Ok(Reply(Word::Done))
     }
 
     // Ends a permit, where no future has its name. It takes no memory.
-    fn end_permit(&mut self, number: u64, p: u64, ready: &mut Ready<u64>) -> Result<Answer, Stop>
+    fn end_permit(&mut self, number: u64, p: u64, ready: &mut Ready<u64>) -> Result<Reply, Stop>
         requires next { self.old.next ≤ number }
         requires apart { map.get self.old.hall.futures p ≡ None }
         requires room { registered self.old.hall ≤ ready.old.registered }
@@ -396,11 +396,11 @@ impl SharePart {
         let over = entry.is_over();
         self.admissions.remove_if(o, over);
         self.next = number as u128 + 1;
-        Ok(Answer::Done)
+        Ok(Reply(Word::Done))
     }
 
     // Ends the name of an admission. It takes no memory.
-    fn end_name(&mut self, number: u64, o: u64) -> Result<Answer, Stop>
+    fn end_name(&mut self, number: u64, o: u64) -> Result<Reply, Stop>
         requires { self.old.next ≤ number }
         ensures { ActsQuietly self.old number (Drop o) result self.new }
     {
@@ -414,6 +414,6 @@ impl SharePart {
         let over = entry.is_over();
         self.admissions.remove_if(o, over);
         self.next = number as u128 + 1;
-        Ok(Answer::Done)
+        Ok(Reply(Word::Done))
     }
 }

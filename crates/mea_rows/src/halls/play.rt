@@ -70,7 +70,7 @@ impl<F: Family<M> + Lends, M> Hall for FamilyHall<F, M> {
     }
 
     fn act(&mut self, number: u64, event: &F::Event) -> Result<Answer, Stop> {
-        FamilyHall::act(self, number, event)
+        Ok(FamilyHall::act(self, number, event)?.into_answer())
     }
 
     fn next_wake(&mut self) -> Option<u64> {
