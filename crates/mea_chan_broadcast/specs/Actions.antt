@@ -22,5 +22,6 @@ IsFreeBroadcast _ = ⊥
 abbrev pub BroadcastActs : Part Broadcasts → ℕ → BroadcastAction → Result Answer Stop → Part Broadcasts → Waking ℕ → Waking ℕ → Type 0
 BroadcastActs old i a = Acts registered (broadcast_cause old.hall a) (IsFreeBroadcast a) old i (broadcast_act old.hall i a)
 
+-- the same of what wakes nobody and registers no waker
 abbrev pub BroadcastActsQuietly : Part Broadcasts → ℕ → BroadcastAction → Result Answer Stop → Part Broadcasts → Type 0
 BroadcastActsQuietly old i a = ActsQuietly registered (broadcast_cause old.hall a) (IsFreeBroadcast a) old i (broadcast_act old.hall i a)

@@ -35,6 +35,7 @@ heard_told b (Behind k) = answers.Lagged k
 heard_told b (Holds v) = answers.Got v
 heard_told b AtTail = if b.senders == 0 then answers.Gone else answers.Empty
 
+-- where the cursor is then
 abbrev pub moved_to : NamedBroadcast → Found ℕ → ℕ → ℕ
 moved_to b (Behind k) position = oldest b
 moved_to b (Holds v) position = position + 1
@@ -45,6 +46,7 @@ abbrev pub PollsAtTail : Bool → NamedBroadcast → ℕ → Option Place → Na
 PollsAtTail true b position slot k answer b' after slot' = (answer ≡ answers.Gone) × (b' ≡ b) × (after ≡ position)
 PollsAtTail false b position slot k answer b' after slot' = (answer ≡ answers.Pending) × (b' ≡ record b { waiting = with_waker b.waiting slot k }) × (after ≡ position) × (slot' ≡ slot_after b.waiting slot)
 
+-- the same, by what stands at the cursor
 abbrev pub Polls : NamedBroadcast → Found ℕ → ℕ → Option Place → NamedWaker → Answer → NamedBroadcast → ℕ → Option Place → Type 0
 Polls b (Behind m) position slot k answer b' after slot' = (answer ≡ answers.Lagged m) × (b' ≡ b) × (after ≡ oldest b)
 Polls b (Holds v) position slot k answer b' after slot' = (answer ≡ answers.Got v) × (b' ≡ b) × (after ≡ position + 1)

@@ -13,22 +13,28 @@ use Rattle.mea_chan_broadcast.specs.declared.recv_entry.RecvEntry.{RecvEntry}
 use Rattle.mea_chan_broadcast.specs.BroadcastCores.{NamedBroadcast}
 
 -- ---- what is seen of each thing
+-- a channel with so many receivers, by its core
 abbrev pub core_seen : NamedBroadcast → ℕ → model.Broadcast
 core_seen b n = record { kept = b.kept; tail = b.tail; size = b.size; senders = b.senders; receivers = n; waiting = set_names b.waiting }
 
+-- a channel
 abbrev pub broadcast_seen : BroadcastEntry → model.Broadcast
 broadcast_seen e = core_seen e.core e.receivers
 
+-- a receiver
 abbrev pub listener_seen : ListenerEntry → Listener
 listener_seen x = record { channel = x.channel; cursor = x.cursor.position; user = x.user }
 
+-- a future
 abbrev pub hearing_seen : RecvEntry → Hearing
 hearing_seen y = record { receiver = y.receiver; channel = y.channel }
 
+-- all of them
 abbrev pub broadcasts_seen : Names BroadcastEntry → Names ℕ → Names ListenerEntry → Names RecvEntry → Broadcasts
 broadcasts_seen es ss xs ys = record { channels = seen broadcast_seen es; senders = ss; receivers = seen listener_seen xs; futures = seen hearing_seen ys }
 
 -- ---- what is kept to
+-- the channel of a future
 abbrev pub of_channel : RecvEntry → ℕ
 of_channel y = y.channel
 
@@ -36,11 +42,13 @@ of_channel y = y.channel
 abbrev pub slots_of : ℕ → Names RecvEntry → Names (Option Place)
 slots_of o ys = seen (λ (y : RecvEntry). y.wait) (own of_channel o ys)
 
+-- who waits at each channel is who its futures say, and no waker is ready there
 pub record AreLinked (es : Names BroadcastEntry) (ys : Names RecvEntry) (next : ℕ) : Type 0 where
   pub linked : (o : ℕ) (e : BroadcastEntry) → get es o ≡ Some e → SetLinked e.core.waiting (slots_of o ys) next
   -- wakers are handed on after each event
   pub quiet : (o : ℕ) (e : BroadcastEntry) → get es o ≡ Some e → e.core.wakes ≡ []
 
+-- what channels, senders, receivers and futures keep to, where the next event has this number or a greater one
 pub record AreKeptBroadcasts (es : Names BroadcastEntry) (ss : Names ℕ) (xs : Names ListenerEntry) (ys : Names RecvEntry) (next : ℕ) : Type 0 where
   pub valid : AreKept (broadcasts_seen es ss xs ys) next
   pub links : AreLinked es ys next

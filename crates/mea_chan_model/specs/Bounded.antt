@@ -27,15 +27,18 @@ pub record BoundedSend : Type 0 where
   pub value : ℕ
   pub polled : Bool
 
+-- bounded channels by name: their mailboxes, their rooms, and the sends of their senders
 pub record Bounded : Type 0 where
   pub mail : Mailboxes
   pub rooms : Names Room
   pub sends : Names BoundedSend
 
+-- no bounded channel
 abbrev pub no_bounded : Bounded
 no_bounded = record { mail = no_mailboxes; rooms = empty; sends = empty }
 
 -- ---- what lives
+-- whether f is a send
 abbrev pub is_send : Bounded → ℕ → Bool
 is_send h f = is_some (get h.sends f)
 
@@ -43,6 +46,7 @@ is_send h f = is_some (get h.sends f)
 abbrev pub sends_of : Bounded → ℕ → ℕ
 sends_of h s = len (own (λ (x : BoundedSend). x.sender) s h.sends)
 
+-- who waits in a room, in order, each with its waker
 abbrev pub waiting_at : Room → Waiting
 waiting_at r = who r.queue
 
@@ -56,6 +60,7 @@ is_full_in None r = false
 is_full_in (Some c) None = false
 is_full_in (Some c) (Some r) = if c.ended then false else length c.queued == r.capacity
 
+-- the same of the channel o
 abbrev pub is_full : Bounded → ℕ → Bool
 is_full h o = is_full_in (get h.mail.channels o) (get h.rooms o)
 
@@ -65,6 +70,7 @@ abbrev pub at_room_in : Names Room → ℕ → (Room → Room) → Option Room �
 at_room_in rs o change None = rs
 at_room_in rs o change (Some r) = insert rs o (change r)
 
+-- the same, by the room that o has
 abbrev pub at_room : Names Room → ℕ → (Room → Room) → Names Room
 at_room rs o change = at_room_in rs o change (get rs o)
 
@@ -73,6 +79,7 @@ abbrev pub woken_in : Option Room → (Room → List ℕ) → List ℕ
 woken_in None woken = []
 woken_in (Some r) woken = woken r
 
+-- the same, by the room that o has
 abbrev pub woken_at : Names Room → ℕ → (Room → List ℕ) → List ℕ
 woken_at rs o woken = woken_in (get rs o) woken
 
@@ -80,6 +87,7 @@ woken_at rs o woken = woken_in (get rs o) woken
 abbrev pub granted : ℕ → Room → Room
 granted n r = record r { queue = waiting_after r.queue n }
 
+-- their wakers
 abbrev pub woken_by_grant : ℕ → Room → List ℕ
 woken_by_grant n r = woken_by r.queue n
 
@@ -87,6 +95,7 @@ woken_by_grant n r = woken_by r.queue n
 abbrev pub all_granted : Room → Room
 all_granted r = granted (lacks r.queue) r
 
+-- their wakers
 abbrev pub all_woken : Room → List ℕ
 all_woken r = woken_by_grant (lacks r.queue) r
 
@@ -126,6 +135,7 @@ end_in h f x r =
     else if x.polled then record { hall = record h { rooms = insert h.rooms x.channel (granted 1 r); sends = remove h.sends f }; reply = answers.Done; wakes = woken_by_grant 1 r }
     else quietly (record h { sends = remove h.sends f }) answers.Done
 
+-- the same, where the channel may be gone: then the send is gone alone
 abbrev pub end_send : Bounded → ℕ → BoundedSend → Option Room → Outcome Bounded
 end_send h f x None = quietly (record h { sends = remove h.sends f }) answers.Done
 end_send h f x (Some r) = end_in h f x r
@@ -158,12 +168,15 @@ receiver_ended h o out = record {
 }
 
 -- ---- codes, by which a proof tells two values apart
+-- of a room
 abbrev pub room_code : Coded Room
 room_code = code_by (ℕ × Lacking) (coded× coded_ℕ (coded_list (coded× (coded× coded_ℕ coded_ℕ) coded_ℕ))) (λ r. (r.capacity, r.queue)) (λ p. record { capacity = p.0; queue = p.1 }) (λ _. refl)
 
+-- of a send
 abbrev pub send_code : Coded BoundedSend
 send_code = code_by (ℕ × (ℕ × (ℕ × Bool))) (coded× coded_ℕ (coded× coded_ℕ (coded× coded_ℕ coded_bool))) (λ x. (x.sender, (x.channel, (x.value, x.polled)))) (λ p. record { sender = p.0; channel = p.1.0; value = p.1.1.0; polled = p.1.1.1 }) (λ _. refl)
 
+-- of bounded channels by name
 abbrev pub bounded_code : Coded Bounded
 bounded_code =
     code_by (Mailboxes × (Names Room × Names BoundedSend)) (coded× mailboxes_code (coded× (names_code room_code) (names_code send_code)))

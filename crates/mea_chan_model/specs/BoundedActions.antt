@@ -15,6 +15,7 @@ use Rattle.mea_chan_model.specs.Bounded.{Bounded, is_send, sends_of, is_full}
 pub use Rattle.mea_chan_model.specs.declared.bounded_action.BoundedAction.{BoundedAction}
 pub use Rattle.mea_chan_model.specs.declared.bounded_action.BoundedAction.TheVariants.{MakeRoom, CopySender, TrySend, BeginSend, PollSend, EndSend, TryReceive, PollReceive, DropSender, DropReceiver}
 
+-- why an action is refused; none where it is not
 abbrev pub bounded_cause : Bounded → BoundedAction → Option Stop
 bounded_cause h (MakeRoom n) = if n == 0 then Some stops.Zero else None
 bounded_cause h (CopySender s) = cause_in h.mail (actions.Copy s)
@@ -45,6 +46,7 @@ abbrev pub bounded_polled : BoundedAction → ℕ → Option ℕ
 bounded_polled (PollReceive q w) r = polled_in (actions.Poll q w) r
 bounded_polled _ r = None
 
+-- whether the receiver r ends
 abbrev pub bounded_ends : BoundedAction → ℕ → Bool
 bounded_ends (DropReceiver q) r = ends_in (actions.EndReceiver q true false) r
 bounded_ends _ r = false

@@ -15,9 +15,11 @@ pub use Rattle.mea_chan_model.specs.declared.box_action.BoxAction.TheVariants.{M
 abbrev pub Boxes : Type 0
 Boxes = Names (Option ℕ)
 
+-- whether b is a box
 abbrev pub is_box : Boxes → ℕ → Bool
 is_box h b = is_some (get h b)
 
+-- why an action is refused; none where it is not
 abbrev pub box_cause : Boxes → BoxAction → Option Stop
 box_cause h (MakeBox c) = None
 box_cause h (Swap b c) = unknown_unless (is_box h b)

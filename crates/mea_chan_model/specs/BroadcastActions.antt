@@ -15,9 +15,11 @@ pub use Rattle.mea_chan_model.specs.declared.broadcast_action.BroadcastAction.Th
 abbrev pub most_size : ℕ
 most_size = 9223372036854775808
 
+-- the greatest number of senders
 abbrev pub most_senders : ℕ
 most_senders = 18446744073709551615
 
+-- the last position
 abbrev pub last_tail : ℕ
 last_tail = 18446744073709551615
 
@@ -26,6 +28,7 @@ abbrev pub unusable : Option Listener → Option Stop
 unusable None = Some stops.Unknown
 unusable (Some x) = if is_some x.user then Some stops.Borrowed else None
 
+-- why an action is refused; none where it is not
 abbrev pub broadcast_cause : Broadcasts → BroadcastAction → Option Stop
 broadcast_cause h (Open n) = if n == 0 then Some stops.Zero else if nat_lt most_size n then Some stops.Overflow else None
 broadcast_cause h (AddSender s) = if is_sender h s then (if senders_in (channel_of h (get h.senders s)) == most_senders then Some stops.Overflow else None) else Some stops.Unknown
@@ -44,9 +47,11 @@ broadcast_cause h (EndHear f) = unknown_unless (is_hearing h f)
 abbrev pub by_sender : Broadcasts → ℕ → (ℕ → Broadcast → Outcome Broadcasts) → Outcome Broadcasts
 by_sender h s act = found (get h.senders s) h (λ o. found (get h.channels o) h (act o))
 
+-- the same at the channel of a receiver
 abbrev pub by_receiver : Broadcasts → ℕ → (Listener → Broadcast → Outcome Broadcasts) → Outcome Broadcasts
 by_receiver h r act = found (get h.receivers r) h (λ x. found (get h.channels x.channel) h (act x))
 
+-- the same for the receiver of a future
 abbrev pub by_future : Broadcasts → ℕ → (ℕ → Listener → Outcome Broadcasts) → Outcome Broadcasts
 by_future h f act = found (get h.futures f) h (λ y. found (get h.receivers y.receiver) h (act y.receiver))
 
@@ -70,6 +75,7 @@ abbrev pub broadcast_polled : BroadcastAction → ℕ → Option ℕ
 broadcast_polled (PollHear g w) f = cond (g == f) (Some w) None
 broadcast_polled _ f = None
 
+-- whether the future f ends
 abbrev pub broadcast_ends : BroadcastAction → ℕ → Bool
 broadcast_ends (EndHear g) f = g == f
 broadcast_ends _ f = false

@@ -5,9 +5,11 @@ use Rattle.mea_by_name.specs.ByName.{Names, own, AreHome}
 use Rattle.mea_by_name.specs.NamedQueue.{waker_for}
 use Rattle.mea_chan_model.specs.Broadcasts.{Broadcast, Broadcasts, Listener, Hearing, of_hearing}
 
+-- whose a receiver is
 abbrev pub of_listener : Listener → ℕ
 of_listener x = x.channel
 
+-- a sender is known by its channel, so it is that
 abbrev pub of_itself : ℕ → ℕ
 of_itself o = o
 
@@ -28,6 +30,7 @@ pub record AreHeard (c : Broadcast) (xs : Names Listener) (ys : Names Hearing) :
   -- after the last sender nobody waits
   pub silent : c.senders ≡ 0 → c.waiting ≡ []
 
+-- what all channels keep to before the event n: each is heard, counts its senders, and is there for what is of it
 pub record AreKept (h : Broadcasts) (n : ℕ) : Type 0 where
   pub heard : (o : ℕ) (c : Broadcast) → get h.channels o ≡ Some c → AreHeard c (own of_listener o h.receivers) (own of_hearing o h.futures)
   pub served : (o : ℕ) (c : Broadcast) → get h.channels o ≡ Some c → c.senders ≡ len (own of_itself o h.senders)

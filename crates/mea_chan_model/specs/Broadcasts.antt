@@ -37,22 +37,28 @@ pub record Broadcasts : Type 0 where
   pub receivers : Names Listener
   pub futures : Names Hearing
 
+-- no broadcast channel
 abbrev pub no_broadcasts : Broadcasts
 no_broadcasts = record { channels = empty; senders = empty; receivers = empty; futures = empty }
 
 -- ---- what lives
+-- whether o is a channel
 abbrev pub is_broadcast : Broadcasts → ℕ → Bool
 is_broadcast h o = is_some (get h.channels o)
 
+-- whether s is a sender
 abbrev pub is_sender : Broadcasts → ℕ → Bool
 is_sender h s = is_some (get h.senders s)
 
+-- whether f is a future of a receive
 abbrev pub is_hearing : Broadcasts → ℕ → Bool
 is_hearing h f = is_some (get h.futures f)
 
+-- who is registered at a channel, in order, each with a waker
 abbrev pub waiting_at : Broadcast → Waiting
 waiting_at c = c.waiting
 
+-- the channel of a future
 abbrev pub of_hearing : Hearing → ℕ
 of_hearing y = y.channel
 
@@ -69,10 +75,12 @@ abbrev pub senders_in : Option Broadcast → ℕ
 senders_in None = 0
 senders_in (Some c) = c.senders
 
+-- how many messages a channel was ever sent; one that is gone none
 abbrev pub tail_in : Option Broadcast → ℕ
 tail_in None = 0
 tail_in (Some c) = c.tail
 
+-- the channel that is named, if it is there
 abbrev pub channel_of : Broadcasts → Option ℕ → Option Broadcast
 channel_of h None = None
 channel_of h (Some o) = get h.channels o
@@ -83,6 +91,7 @@ abbrev pub power_from : ℕ → ℕ → ℕ → ℕ
 power_from zero p n = p
 power_from (suc k) p n = if nat_le n p then p else power_from k (2 * p) n
 
+-- how many messages a ring keeps that was asked to keep n: the least power of two that is at least n
 abbrev pub ring_size : ℕ → ℕ
 ring_size n = power_from 63 1 n
 
@@ -100,13 +109,16 @@ pub data Stands : Type 0 where
   Holds : ℕ → Stands
   AtTail : Stands
 
+-- what is there, by the message at that place, if there is one
 abbrev pub stands_at : Option ℕ → Stands
 stands_at None = AtTail
 stands_at (Some v) = Holds v
 
+-- what stands at a cursor of a channel
 abbrev pub stands : Broadcast → ℕ → Stands
 stands c cursor = if nat_lt cursor (oldest c) then Behind (oldest c - cursor) else stands_at (slice_get c.kept (cursor - oldest c))
 
+-- a channel with one sender, one receiver and no message
 abbrev pub new_broadcast : ℕ → Broadcast
 new_broadcast size = record { kept = []; tail = 0; size = size; senders = 1; receivers = 1; waiting = [] }
 
@@ -118,6 +130,7 @@ with_message c v = record c { kept = newest c.size (c.kept ++ v ∷ []); tail = 
 abbrev pub less_sender : Broadcast → Broadcast
 less_sender c = if c.senders == 1 then record c { senders = 0; waiting = [] } else record c { senders = c.senders - 1 }
 
+-- whom the end of a sender wakes: all who wait, where it was the last
 abbrev pub woken_by_end : Broadcast → List ℕ
 woken_by_end c = if c.senders == 1 then wakers c.waiting else []
 
@@ -130,6 +143,7 @@ is_over c = if c.senders == 0 then c.receivers == 0 else false
 abbrev pub tidied : Names Broadcast → ℕ → Broadcast → Names Broadcast
 tidied cs o c = if is_over c then remove cs o else insert cs o c
 
+-- a channel is made, with a sender and a receiver, all three named i
 abbrev pub make : Broadcasts → ℕ → ℕ → Outcome Broadcasts
 make h i size = quietly (record h {
   channels = insert h.channels i (new_broadcast size);
@@ -140,6 +154,7 @@ make h i size = quietly (record h {
 abbrev pub add_sender : Broadcasts → ℕ → ℕ → Broadcast → Outcome Broadcasts
 add_sender h i o c = quietly (record h { channels = insert h.channels o (record c { senders = c.senders + 1 }); senders = insert h.senders i o }) answers.Made
 
+-- the message v is sent to all receivers of o, and all who wait are woken
 abbrev pub send : Broadcasts → ℕ → ℕ → Broadcast → Outcome Broadcasts
 send h v o c = record { hall = record h { channels = insert h.channels o (with_message c v) }; reply = answers.Done; wakes = wakers c.waiting }
 
@@ -171,26 +186,33 @@ poll h f w r x o c (Behind k) = quietly (freed h f r x (oldest c)) (answers.Lagg
 poll h f w r x o c (Holds v) = quietly (freed h f r x (x.cursor + 1)) (answers.Got v)
 poll h f w r x o c AtTail = if c.senders == 0 then quietly (freed h f r x x.cursor) answers.Gone else quietly (record h { channels = insert h.channels o (record c { waiting = registering c.waiting f w }) }) answers.Pending
 
+-- the future f ends before it has heard anything: its receiver is free, and its waker stays
 abbrev pub end_future : Broadcasts → ℕ → ℕ → Listener → Outcome Broadcasts
 end_future h f r x = quietly (freed h f r x x.cursor) answers.Done
 
+-- the receiver r of o ends
 abbrev pub end_receiver : Broadcasts → ℕ → ℕ → Broadcast → Outcome Broadcasts
 end_receiver h r o c = quietly (record h { channels = tidied h.channels o (record c { receivers = c.receivers - 1 }); receivers = remove h.receivers r }) answers.Done
 
+-- the sender s of o ends; with the last one all who wait are woken
 abbrev pub end_sender : Broadcasts → ℕ → ℕ → Broadcast → Outcome Broadcasts
 end_sender h s o c = record { hall = record h { channels = tidied h.channels o (less_sender c); senders = remove h.senders s }; reply = answers.Done; wakes = woken_by_end c }
 
 -- ---- codes, by which a proof tells two values apart
+-- of a channel
 abbrev pub broadcast_code : Coded Broadcast
 broadcast_code = code_by (List ℕ × (ℕ × (ℕ × (ℕ × (ℕ × Waiting))))) (coded× (coded_list coded_ℕ) (coded× coded_ℕ (coded× coded_ℕ (coded× coded_ℕ (coded× coded_ℕ (coded_list (coded× coded_ℕ coded_ℕ)))))))
     (λ c. (c.kept, (c.tail, (c.size, (c.senders, (c.receivers, c.waiting)))))) (λ p. record { kept = p.0; tail = p.1.0; size = p.1.1.0; senders = p.1.1.1.0; receivers = p.1.1.1.1.0; waiting = p.1.1.1.1.1 }) (λ _. refl)
 
+-- of a receiver
 abbrev pub listener_code : Coded Listener
 listener_code = code_by (ℕ × (ℕ × Option ℕ)) (coded× coded_ℕ (coded× coded_ℕ (coded_option coded_ℕ))) (λ x. (x.channel, (x.cursor, x.user))) (λ p. record { channel = p.0; cursor = p.1.0; user = p.1.1 }) (λ _. refl)
 
+-- of a future
 abbrev pub hearing_code : Coded Hearing
 hearing_code = code_by (ℕ × ℕ) (coded× coded_ℕ coded_ℕ) (λ y. (y.receiver, y.channel)) (λ p. record { receiver = p.0; channel = p.1 }) (λ _. refl)
 
+-- of broadcast channels by name
 abbrev pub broadcasts_code : Coded Broadcasts
 broadcasts_code =
     code_by (Names Broadcast × (Names ℕ × (Names Listener × Names Hearing))) (coded× (names_code broadcast_code) (coded× (names_code coded_ℕ) (coded× (names_code listener_code) (names_code hearing_code))))

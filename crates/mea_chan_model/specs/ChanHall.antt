@@ -25,6 +25,7 @@ pub data BoxKind : Type 0 where
   Full : BoxKind
   Optional : BoxKind
 
+-- the channels and the boxes of each kind, by name
 pub record ChanHall : Type 0 where
   pub unbounded : Mailboxes
   pub oneshots : Mailboxes
@@ -33,6 +34,7 @@ pub record ChanHall : Type 0 where
   pub boxes : Boxes
   pub option_boxes : Boxes
 
+-- no channel and no box
 abbrev pub empty_hall : ChanHall
 empty_hall = record { unbounded = no_mailboxes; oneshots = no_mailboxes; bounded = no_bounded; broadcasts = no_broadcasts; boxes = empty; option_boxes = empty }
 
@@ -56,6 +58,7 @@ abbrev pub boxes_of : ChanHall → BoxKind → Boxes
 boxes_of h Full = h.boxes
 boxes_of h Optional = h.option_boxes
 
+-- the boxes of a kind are these now
 abbrev pub with_boxes : ChanHall → BoxKind → Boxes → ChanHall
 with_boxes h Full p = record h { boxes = p }
 with_boxes h Optional p = record h { option_boxes = p }
@@ -64,6 +67,7 @@ with_boxes h Optional p = record h { option_boxes = p }
 abbrev pub registered : ChanHall → ℕ
 registered h = mailboxes.registered h.unbounded + mailboxes.registered h.oneshots + bounded_ones.registered h.bounded + broadcast_ones.registered h.broadcasts
 
+-- by which a proof tells two halls apart
 abbrev pub hall_code : Coded ChanHall
 hall_code =
     code_by (Mailboxes × (Mailboxes × (Bounded × (Broadcasts × (Boxes × Boxes))))) (coded× mailboxes_code (coded× mailboxes_code (coded× bounded_code (coded× broadcasts_code (coded× boxes_code boxes_code)))))

@@ -18,9 +18,11 @@ pub record Moved : Type 0 where
   pub received : List ℕ
   pub fallen : List ℕ
 
+-- nothing was moved
 abbrev pub nothing : Moved
 nothing = record { accepted = []; received = []; fallen = [] }
 
+-- what was moved first, and then what was moved after it
 abbrev pub then_moved : Moved → Moved → Moved
 then_moved m n = record { accepted = m.accepted ++ n.accepted; received = m.received ++ n.received; fallen = m.fallen ++ n.fallen }
 
@@ -29,24 +31,30 @@ abbrev pub queued_in : Option Mailbox → List ℕ
 queued_in None = []
 queued_in (Some c) = c.queued
 
+-- the channel of a receiver, if that is there
 abbrev pub channel_at : Option Receiver → Option ℕ
 channel_at None = None
 channel_at (Some x) = Some x.channel
 
+-- the message v, where the reply says that it was accepted
 abbrev pub accepted_by : Answer → ℕ → List ℕ
 accepted_by answers.Accepted v = v ∷ []
 accepted_by _ v = []
 
+-- the message that the reply gives, if it gives one
 abbrev pub received_by : Answer → List ℕ
 received_by (answers.Got v) = v ∷ []
 received_by _ = []
 
+-- a sender sent v, and had this reply
 abbrev pub accepts : ℕ → Answer → Moved
 accepts v reply = record { accepted = accepted_by reply v; received = []; fallen = [] }
 
+-- a receiver asked, and had this reply
 abbrev pub receives : Answer → Moved
 receives reply = record { accepted = []; received = received_by reply; fallen = [] }
 
+-- these messages fell with the receiver
 abbrev pub drops : List ℕ → Moved
 drops vs = record { accepted = []; received = []; fallen = vs }
 
@@ -78,6 +86,7 @@ bounded_moved_by h (PollReceive r w) reply o = moved_by h.mail (Poll r w) reply 
 bounded_moved_by h (DropReceiver r) reply o = moved_by h.mail (EndReceiver r true false) reply o
 bounded_moved_by h _ reply o = nothing
 
+-- what was moved at the channel o of one kind by what a line means
 abbrev pub moved_at : ChanHall → ReceiverKind → Meaning → Answer → ℕ → Moved
 moved_at h (ReceiverOf Unbounded) (OfChannels Unbounded a) reply o = moved_by h.unbounded a reply o
 moved_at h (ReceiverOf Oneshots) (OfChannels Oneshots a) reply o = moved_by h.oneshots a reply o

@@ -9,6 +9,7 @@ use Rattle.mea_family.specs.Play.{found}
 use Rattle.mea_chan_model.specs.Mailboxes as mailboxes
 use Rattle.mea_chan_model.specs.Mailboxes.{Mailbox, Mailboxes, is_sender, is_receiver, senders_beside, is_empty}
 
+-- what is done to a channel, or to what is of one
 pub data Action : Type 0 where
   -- a channel, with a sender and a receiver: whether that can be polled
   Make : Bool → Action
@@ -34,6 +35,7 @@ pub data Action : Type 0 where
 abbrev pub most_senders : ℕ
 most_senders = 18446744073709551615
 
+-- why an action is refused; none where it is not
 abbrev pub cause_in : Mailboxes → Action → Option Stop
 cause_in h (Make polls) = None
 cause_in h (Copy s) = if is_sender h s then (if senders_beside h s == most_senders then Some stops.Overflow else None) else Some stops.Unknown
@@ -52,6 +54,7 @@ cause_in h (TellMessage r) = unknown_unless (is_receiver h r false)
 abbrev pub by_sender : Mailboxes → ℕ → (ℕ → Mailbox → Outcome Mailboxes) → Outcome Mailboxes
 by_sender h s act = found (get h.senders s) h (λ o. found (get h.channels o) h (act o))
 
+-- the same by a receiver; nothing changes where it or its channel is not there
 abbrev pub by_receiver : Mailboxes → ℕ → (ℕ → Mailbox → Outcome Mailboxes) → Outcome Mailboxes
 by_receiver h r act = found (get h.receivers r) h (λ x. found (get h.channels x.channel) h (act x.channel))
 

@@ -27,13 +27,16 @@ pub record Mailboxes : Type 0 where
   pub senders : Names ℕ
   pub receivers : Names Receiver
 
+-- no channel, and nothing that is of one
 abbrev pub no_mailboxes : Mailboxes
 no_mailboxes = record { channels = empty; senders = empty; receivers = empty }
 
 -- ---- what lives
+-- whether o is a channel
 abbrev pub is_channel : Mailboxes → ℕ → Bool
 is_channel h o = is_some (get h.channels o)
 
+-- whether s is a sender
 abbrev pub is_sender : Mailboxes → ℕ → Bool
 is_sender h s = is_some (get h.senders s)
 
@@ -46,6 +49,7 @@ abbrev pub polls_as : Option Receiver → Bool → Bool
 polls_as None polls = false
 polls_as (Some x) polls = if polls then x.polls else not x.polls
 
+-- whether r is a receiver that can be polled, or that cannot
 abbrev pub is_receiver : Mailboxes → ℕ → Bool → Bool
 is_receiver h r polls = polls_as (get h.receivers r) polls
 
@@ -54,10 +58,12 @@ abbrev pub senders_in : Option Mailbox → ℕ
 senders_in None = 0
 senders_in (Some c) = c.senders
 
+-- the channel that is named, if it is there
 abbrev pub channel_of : Mailboxes → Option ℕ → Option Mailbox
 channel_of h None = None
 channel_of h (Some o) = get h.channels o
 
+-- how many senders the channel of a sender has
 abbrev pub senders_beside : Mailboxes → ℕ → ℕ
 senders_beside h s = senders_in (channel_of h (get h.senders s))
 
@@ -69,10 +75,12 @@ kept c = length (option_to_list c.waker)
 abbrev pub registered : Mailboxes → ℕ
 registered h = total (λ o c. kept c) h.channels
 
+-- the waker that a channel keeps, if it is there and keeps one
 abbrev pub waker_in : Option Mailbox → Option ℕ
 waker_in None = None
 waker_in (Some c) = c.waker
 
+-- the waker that is kept for this receiver, if it is there and there is one
 abbrev pub placed_of : Mailboxes → Option Receiver → Option ℕ
 placed_of h None = None
 placed_of h (Some x) = waker_in (get h.channels x.channel)
@@ -82,9 +90,11 @@ abbrev pub placed : Mailboxes → ℕ → Option ℕ
 placed h r = placed_of h (get h.receivers r)
 
 -- ---- what the events do
+-- a channel with one sender, whose receiver lives, and nothing else
 abbrev pub new_mailbox : Mailbox
 new_mailbox = record { queued = []; senders = 1; ended = false; waker = None }
 
+-- the channel o is this now
 abbrev pub with_channel : Mailboxes → ℕ → Mailbox → Mailboxes
 with_channel h o c = record h { channels = insert h.channels o c }
 
@@ -96,6 +106,7 @@ is_over c = if c.ended then c.senders == 0 else false
 abbrev pub tidied_channels : Names Mailbox → ℕ → Mailbox → Names Mailbox
 tidied_channels cs o c = if is_over c then remove cs o else insert cs o c
 
+-- the same of all: o is this channel now, or gone where that is over
 abbrev pub tidied : Mailboxes → ℕ → Mailbox → Mailboxes
 tidied h o c = record h { channels = tidied_channels h.channels o c }
 
@@ -103,6 +114,7 @@ tidied h o c = record h { channels = tidied_channels h.channels o c }
 abbrev pub woken : Mailbox → List ℕ
 woken c = option_to_list c.waker
 
+-- a channel is made, with a sender and a receiver, all three named i; whether the receiver can be polled
 abbrev pub make : Mailboxes → ℕ → Bool → Outcome Mailboxes
 make h i polls = quietly (record {
   channels = insert h.channels i new_mailbox;
@@ -110,6 +122,7 @@ make h i polls = quietly (record {
   receivers = insert h.receivers i (record { channel = i; polls = polls });
 }) answers.Made
 
+-- a further sender of o
 abbrev pub copy : Mailboxes → ℕ → ℕ → Mailbox → Outcome Mailboxes
 copy h i o c = quietly (record h { channels = insert h.channels o (record c { senders = c.senders + 1 }); senders = insert h.senders i o }) answers.Made
 
@@ -117,12 +130,15 @@ copy h i o c = quietly (record h { channels = insert h.channels o (record c { se
 abbrev pub with_message : Mailbox → ℕ → Mailbox
 with_message c v = if c.ended then c else record c { queued = c.queued ++ v ∷ []; waker = None }
 
+-- what the sender is told: the message comes back where nobody will receive it
 abbrev pub sent : Mailbox → ℕ → Answer
 sent c v = if c.ended then answers.Closed v else answers.Accepted
 
+-- whom a message wakes: nobody where nobody will receive it
 abbrev pub woken_by_send : Mailbox → List ℕ
 woken_by_send c = if c.ended then [] else woken c
 
+-- the message v is sent to o
 abbrev pub send : Mailboxes → ℕ → ℕ → Mailbox → Outcome Mailboxes
 send h o v c = record { hall = with_channel h o (with_message c v); reply = sent c v; wakes = woken_by_send c }
 
@@ -134,9 +150,11 @@ without_senders c = record c { senders = 0; waker = None }
 abbrev pub less_sender : Mailbox → Mailbox
 less_sender c = if c.senders == 1 then without_senders c else record c { senders = c.senders - 1 }
 
+-- whom the end of a sender wakes: the receiver, where it was the last
 abbrev pub woken_by_end : Mailbox → List ℕ
 woken_by_end c = if c.senders == 1 then woken c else []
 
+-- the sender s is gone
 abbrev pub without_sender : Mailboxes → ℕ → Mailboxes
 without_sender h s = record h { senders = remove h.senders s }
 
@@ -144,6 +162,7 @@ without_sender h s = record h { senders = remove h.senders s }
 abbrev pub send_last : Mailboxes → ℕ → ℕ → ℕ → Mailbox → Outcome Mailboxes
 send_last h s v o c = record { hall = tidied (without_sender h s) o (without_senders (with_message c v)); reply = sent c v; wakes = woken c }
 
+-- the sender s of o ends; with the last one the receiver is woken
 abbrev pub end_sender : Mailboxes → ℕ → ℕ → Mailbox → Outcome Mailboxes
 end_sender h s o c = record { hall = tidied (without_sender h s) o (less_sender c); reply = answers.Done; wakes = woken_by_end c }
 
@@ -161,9 +180,11 @@ poll_of h w o c (v ∷ rest) = quietly (with_channel h o (record c { queued = re
 abbrev pub without_receiver : Bool → Mailbox → Mailbox
 without_receiver falls c = record c { queued = []; ended = true; waker = if falls then None else c.waker }
 
+-- the receiver r is gone alone
 abbrev pub leaving : Mailboxes → ℕ → Mailboxes
 leaving h r = record h { receivers = remove h.receivers r }
 
+-- the receiver of o ends; whether its waker falls with it
 abbrev pub end_receiver : Mailboxes → Bool → ℕ → Mailbox → Outcome Mailboxes
 end_receiver h falls o c = quietly (tidied h o (without_receiver falls c)) answers.Done
 
@@ -171,20 +192,25 @@ end_receiver h falls o c = quietly (tidied h o (without_receiver falls c)) answe
 abbrev pub turn : Mailboxes → ℕ → ℕ → Receiver → Outcome Mailboxes
 turn h i r x = quietly (record h { receivers = insert (remove h.receivers r) i (record { channel = x.channel; polls = true }) }) answers.Made
 
+-- yes or no is told, and nothing changes
 abbrev pub tell : Mailboxes → Bool → Outcome Mailboxes
 tell h is = quietly h (if is then answers.Yes else answers.No)
 
+-- whether nothing is queued
 abbrev pub is_empty : List ℕ → Bool
 is_empty [] = true
 is_empty (v ∷ rest) = false
 
 -- ---- codes, by which a proof tells two values apart
+-- of a channel
 abbrev pub mailbox_code : Coded Mailbox
 mailbox_code = code_by (List ℕ × (ℕ × (Bool × Option ℕ))) (coded× (coded_list coded_ℕ) (coded× coded_ℕ (coded× coded_bool (coded_option coded_ℕ)))) (λ c. (c.queued, (c.senders, (c.ended, c.waker)))) (λ p. record { queued = p.0; senders = p.1.0; ended = p.1.1.0; waker = p.1.1.1 }) (λ _. refl)
 
+-- of a receiver
 abbrev pub receiver_code : Coded Receiver
 receiver_code = code_by (ℕ × Bool) (coded× coded_ℕ coded_bool) (λ x. (x.channel, x.polls)) (λ p. record { channel = p.0; polls = p.1 }) (λ _. refl)
 
+-- of channels by name
 abbrev pub mailboxes_code : Coded Mailboxes
 mailboxes_code =
     code_by (Names Mailbox × (Names ℕ × Names Receiver)) (coded× (names_code mailbox_code) (coded× (names_code coded_ℕ) (names_code receiver_code)))

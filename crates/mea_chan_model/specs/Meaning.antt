@@ -14,6 +14,7 @@ use Rattle.mea_chan_model.specs.BroadcastActions.{BroadcastAction, broadcast_cau
 use Rattle.mea_chan_model.specs.Boxes.{Boxes, BoxAction, MakeBox, Swap, Store, Tell, TakeOut, DropBox, box_cause, box_act}
 use Rattle.mea_chan_model.specs.ChanHall.{ChanHall, Kind, Unbounded, Oneshots, BoxKind, Full, Optional, part, with_part, boxes_of, with_boxes}
 
+-- the kind of what a line is about, with what is done to it
 pub data Meaning : Type 0 where
   OfChannels : Kind → Action → Meaning
   OfBounded : BoundedAction → Meaning
@@ -79,12 +80,14 @@ meaning_of (AoGet b) = OfBoxes Optional (Tell b)
 meaning_of (AoInto b) = OfBoxes Optional (TakeOut b)
 meaning_of (AoDrop b) = OfBoxes Optional (DropBox b)
 
+-- why what a line means is refused; none where it is not
 abbrev pub cause_by : ChanHall → Meaning → Option Stop
 cause_by h (OfChannels k a) = cause_in (part h k) a
 cause_by h (OfBounded a) = bounded_cause h.bounded a
 cause_by h (OfBroadcasts a) = broadcast_cause h.broadcasts a
 cause_by h (OfBoxes k a) = box_cause (boxes_of h k) a
 
+-- why a line is refused; none where it is not
 abbrev pub cause_of : ChanHall → ChanEvent → Option Stop
 cause_of h e = cause_by h (meaning_of e)
 
@@ -92,24 +95,30 @@ cause_of h e = cause_by h (meaning_of e)
 abbrev pub in_channels : ChanHall → Kind → Outcome Mailboxes → Outcome ChanHall
 in_channels h k o = record { hall = with_part h k o.hall; reply = o.reply; wakes = o.wakes }
 
+-- the same of bounded channels
 abbrev pub in_bounded : ChanHall → Outcome Bounded → Outcome ChanHall
 in_bounded h o = record { hall = record h { bounded = o.hall }; reply = o.reply; wakes = o.wakes }
 
+-- the same of broadcast channels
 abbrev pub in_broadcasts : ChanHall → Outcome Broadcasts → Outcome ChanHall
 in_broadcasts h o = record { hall = record h { broadcasts = o.hall }; reply = o.reply; wakes = o.wakes }
 
+-- the same of the boxes of a kind
 abbrev pub in_boxes : ChanHall → BoxKind → Outcome Boxes → Outcome ChanHall
 in_boxes h k o = record { hall = with_boxes h k o.hall; reply = o.reply; wakes = o.wakes }
 
+-- what follows where what a line means is done under number i
 abbrev pub step_by : ChanHall → ℕ → Meaning → Outcome ChanHall
 step_by h i (OfChannels k a) = in_channels h k (act_in (part h k) i a)
 step_by h i (OfBounded a) = in_bounded h (bounded_act h.bounded i a)
 step_by h i (OfBroadcasts a) = in_broadcasts h (broadcast_act h.broadcasts i a)
 step_by h i (OfBoxes k a) = in_boxes h k (box_act (boxes_of h k) i a)
 
+-- what follows where line i is played
 abbrev pub step : ChanHall → ℕ → ChanEvent → Outcome ChanHall
 step h i e = step_by h i (meaning_of e)
 
+-- whether what a line means can register a waker
 abbrev pub registers_by : Meaning → Bool
 registers_by (OfChannels k a) = registers_in a
 registers_by (OfBounded a) = bounded_registers a

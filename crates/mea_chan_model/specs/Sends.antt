@@ -19,13 +19,16 @@ abbrev pub queue_in : Option Room → Lacking
 queue_in None = []
 queue_in (Some r) = r.queue
 
+-- those who wait in the room of o
 abbrev pub queue_at : Bounded → ℕ → Lacking
 queue_at h o = queue_in (get h.rooms o)
 
+-- for how many messages a room has place; none where it is not there
 abbrev pub capacity_in : Option Room → ℕ
 capacity_in None = 0
 capacity_in (Some r) = r.capacity
 
+-- for how many messages o has place
 abbrev pub capacity_at : Bounded → ℕ → ℕ
 capacity_at h o = capacity_in (get h.rooms o)
 
@@ -41,9 +44,11 @@ is_granted_at q o f x = if is_pending_at o x then not (waits (who q) f) else fal
 abbrev pub pending_at : Bounded → ℕ → ℕ
 pending_at h o = total (λ f x. cond (is_pending_at o x) 1 0) h.sends
 
+-- how many sends of o were granted a place, by who waits there
 abbrev pub granted_of : Lacking → Names BoundedSend → ℕ → ℕ
 granted_of q xs o = total (λ f x. cond (is_granted_at q o f x) 1 0) xs
 
+-- the same, by who waits in the room of o
 abbrev pub granted_at : Bounded → ℕ → ℕ
 granted_at h o = granted_of (queue_at h o) h.sends o
 
@@ -52,21 +57,26 @@ abbrev pub polls_send : BoundedAction → ℕ → Option ℕ
 polls_send (PollSend g w) f = cond (g == f) (Some w) None
 polls_send _ f = None
 
+-- whether a send ends
 abbrev pub ends_send : BoundedAction → ℕ → Bool
 ends_send (EndSend g) f = g == f
 ends_send _ f = false
 
+-- the waker with which a send is polled by what a line means, if it is
 abbrev pub send_polled_by : Meaning → ℕ → Option ℕ
 send_polled_by (OfBounded a) f = polls_send a f
 send_polled_by _ f = None
 
+-- whether a send ends by what a line means
 abbrev pub send_ended_by : Meaning → ℕ → Bool
 send_ended_by (OfBounded a) f = ends_send a f
 send_ended_by _ f = false
 
+-- the channel of a send
 abbrev pub of_channel : BoundedSend → ℕ
 of_channel x = x.channel
 
+-- the family of sends
 abbrev pub sends_family : Family
 sends_family = record {
   Hall = ChanHall;

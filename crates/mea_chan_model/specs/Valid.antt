@@ -12,6 +12,7 @@ pub record AreValid (h : Mailboxes) : Type 0 where
   pub receivers : (o : ℕ) (c : Mailbox) → get h.channels o ≡ Some c → cond c.ended 0 1 ≡ len (own (λ (x : Receiver). x.channel) o h.receivers)
   pub waits : (o : ℕ) (c : Mailbox) (w : ℕ) → get h.channels o ≡ Some c → c.waker ≡ Some w → (c.queued ≡ []) × (0 < c.senders)
 
+-- and so for each kind of channel
 pub record AllValid (h : ChanHall) : Type 0 where
   pub unbounded : AreValid h.unbounded
   pub oneshots : AreValid h.oneshots

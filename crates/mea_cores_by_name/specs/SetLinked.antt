@@ -7,6 +7,7 @@ use Rattle.mea_by_name.specs.NamedQueue.{Waiting}
 use Rattle.mea_sets.specs.declared.place.Place.{Place}
 use Rattle.mea_sets.specs.WaitSet.{Registered, is_registered, has_given, index_of}
 
+-- wakers, each with the name of who waits
 abbrev pub names_of : List NamedWaker → Waiting
 names_of [] = []
 names_of (k ∷ ks) = (k.future, k.waker) ∷ names_of ks
@@ -20,10 +21,12 @@ abbrev pub StandsAt : ℕ → List NamedWaker → ℕ → ℕ → Type 0
 StandsAt i [] j f = Unit {0}
 StandsAt i (k ∷ ks) j f = ((i == j) ≡ (k.future == f)) × StandsAt (i + 1) ks j f
 
+-- f stands at none of them
 abbrev pub IsAbsent : List NamedWaker → ℕ → Type 0
 IsAbsent [] f = Unit {0}
 IsAbsent (k ∷ ks) f = ((k.future == f) ≡ false) × IsAbsent ks f
 
+-- each name is below n
 abbrev pub AreBelow : List NamedWaker → ℕ → Type 0
 AreBelow [] n = Unit {0}
 AreBelow (k ∷ ks) n = (k.future < n) × AreBelow ks n

@@ -33,23 +33,27 @@ polled_by _ x = None
 
 -- ---- the thing that a future of each family is
 
+-- of meeting points, by its sort and its name
 abbrev pub meet_thing_as : meet.Sort → ℕ → Thing
 meet_thing_as meet.AtBarrier f = thing_of sorts.Arrival f
 meet_thing_as (meet.Of Latches) f = thing_of sorts.LatchWait f
 meet_thing_as (meet.Of kinds.Groups) f = thing_of sorts.GroupWait f
 meet_thing_as (meet.Of Shutdowns) f = thing_of sorts.Signal f
 
+-- of locks and condition variables, by its sort and its name
 abbrev pub lock_thing_as : lock.Sort → ℕ → Thing
 lock_thing_as (lock.Of Mutexes) f = thing_of sorts.Lock f
 lock_thing_as (lock.Of RwLocks) f = thing_of sorts.Access f
 lock_thing_as lock.Waits f = thing_of sorts.CondvarWait f
 
+-- of channels
 abbrev pub chan_thing : chan.Future → Thing
 chan_thing (chan.Receives (ReceiverOf Unbounded) r) = thing_of sorts.Receive r
 chan_thing (chan.Receives (ReceiverOf Oneshots) r) = thing_of sorts.OneshotReceive r
 chan_thing (chan.Receives ReceiverOfBounded r) = thing_of sorts.BoundedReceive r
 chan_thing (chan.Hears f) = thing_of sorts.Hear f
 
+-- of once types
 abbrev pub once_thing : once.Future → Thing
 once_thing (once.AtCell Onces f) = thing_of sorts.CallWait f
 once_thing (once.AtCell OnceCells f) = thing_of sorts.CellWait f

@@ -41,6 +41,7 @@ pub data Answer (W : Type 0) : Type 0 where
   Counts_are : Counted → Answer W
 
 -- ---- numbers that are given
+-- the number that a call gives, if it gives one
 abbrev pub number_given : {W : Type 0} → Call W → Option ℕ
 number_given (Submit n key value) = Some n
 number_given (SubmitLacking n) = Some n
@@ -158,6 +159,7 @@ module _ {W : Type 0} where
   all_called r (call ∷ calls) = all_called (called r call) calls
 
   -- ---- a call on what a core keeps
+  -- what a submit leaves, by why it is refused, if it is
   abbrev pub submits_on : Service W → ℕ → ℕ → ℕ → Option SubmitError → Service W
   submits_on s n key value (Some why) = given s n
   submits_on s n key value None = after_submit s n key value
@@ -194,6 +196,7 @@ module _ {W : Type 0} where
   all_called_on s (call ∷ calls) = all_called_on (called_on s call) calls
 
   -- ---- jobs that are handed back
+  -- the job that a call hands back, if it hands one back, with its value
   abbrev pub handed_by : Record W → Call W → List (ℕ × ℕ)
   handed_by r TakeBack = option_to_list (first_in (entries r.back))
   handed_by r _ = []

@@ -64,6 +64,7 @@ pub record Record (W : Type 0) : Type 0 where
   pub wakes : List W
 
 -- ---- jobs by their state
+-- whether a job is there and in such a state
 abbrev pub passes : (State → Bool) → Option Job → Bool
 passes p None = false
 passes p (Some job) = p job.state
@@ -169,6 +170,7 @@ module _ {W : Type 0} where
   polls r w = if r.stopped && (len (running_in r.jobs) == 0) then r else record r { waker = Some w }
 
   -- ---- what a core keeps of a record: the jobs that are queued and that run, and how many were finished and returned
+  -- what a core keeps of this record
   abbrev pub kept_of : Record W → Service W
   kept_of r = record {
     work = record { permits = r.permits; queued = queued_in r.jobs; running = running_in r.jobs; back = r.back; stopped = r.stopped };

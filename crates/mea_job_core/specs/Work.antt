@@ -56,6 +56,7 @@ abbrev pub next_of : Names Submission → Names ℕ → Option (ℕ × Submissio
 next_of queued running = soonest running (entries queued)
 
 -- ---- what is done
+-- so many permits, and no job
 abbrev pub new_work : ℕ → Work
 new_work permits = record { permits = permits; queued = empty; running = empty; back = empty; stopped = false }
 

@@ -46,6 +46,7 @@ abbrev pub jobs_told : ℕ → ℕ → ℕ → List ℕ → Told
 jobs_told permits most_queued results script = told_by job_rules (new_record permits most_queued results) script
 
 -- ---- the same by what a core keeps
+-- what a core keeps after a call, whose waker was told
 abbrev pub left_by : Service ℕ → Call ℕ → Service ℕ
 left_by s c = record (called_on s c) { wakes = [] }
 

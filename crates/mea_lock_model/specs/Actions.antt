@@ -9,6 +9,7 @@ use Rattle.mea_family.specs.Play.{found}
 use Rattle.mea_lock_model.specs.Locks as locks
 use Rattle.mea_lock_model.specs.Locks.{Locks, Until, is_named, is_future, is_lock_future, is_condvar_future, is_guard, is_write_guard, things_of, plain_of}
 
+-- what is done to a lock, or by what is of one
 pub data Action : Type 0 where
   -- a lock with this value, and so many permits
   Make : ℕ → ℕ → Action
@@ -35,6 +36,7 @@ pub data Action : Type 0 where
   PollUntil : ℕ → ℕ → Until → Action
   EndWait : ℕ → Action
 
+-- why an action is refused; none where it is not
 abbrev pub cause_in : Locks → Action → Option Stop
 cause_in h (Make v most) = if most == 0 then Some stops.Zero else None
 cause_in h (Begin o plain writes) = unknown_unless (is_named h o)

@@ -25,6 +25,7 @@ cause_with m h (All c) = unknown_unless (is_condvar h c)
 cause_with m h (End f) = unknown_unless (is_wait h f && is_condvar_future m f)
 cause_with m h (Drop c) = borrowed_by (is_condvar h c) (waits_of h c)
 
+-- the same in a hall
 abbrev pub cause_on : LockHall → CondAction → Option Stop
 cause_on h a = cause_with h.mutexes h.condvars a
 

@@ -24,12 +24,15 @@ pub record Condvars : Type 0 where
   pub condvars : Names Waiting
   pub waits : Names CondWait
 
+-- no condition variable and no wait
 abbrev pub no_condvars : Condvars
 no_condvars = record { condvars = empty; waits = empty }
 
+-- whether c is a condition variable
 abbrev pub is_condvar : Condvars → ℕ → Bool
 is_condvar h c = is_some (get h.condvars c)
 
+-- whether f is a wait
 abbrev pub is_wait : Condvars → ℕ → Bool
 is_wait h f = is_some (get h.waits f)
 
@@ -37,6 +40,7 @@ is_wait h f = is_some (get h.waits f)
 abbrev pub waits_of : Condvars → ℕ → ℕ
 waits_of h c = len (own (λ (x : CondWait). x.condvar) c h.waits)
 
+-- who waits to be notified is what is kept of a condition variable
 abbrev pub queue_of : Waiting → Waiting
 queue_of q = q
 
@@ -50,13 +54,16 @@ abbrev pub until_by : Bool → Option ℕ → Until
 until_by polled None = if polled then Held else Never
 until_by polled (Some v) = Reached v
 
+-- the same of this wait, as it is now
 abbrev pub until_of : CondWait → Until
 until_of x = until_by x.polled x.bound
 
 -- ---- what the events do
+-- a condition variable is made
 abbrev pub make : Condvars → ℕ → Outcome Condvars
 make h i = quietly (record h { condvars = insert h.condvars i [] }) answers.Made
 
+-- a wait on c is made, which was never polled
 abbrev pub begin : Condvars → ℕ → ℕ → Option ℕ → Outcome Condvars
 begin h i c bound = quietly (record h { waits = insert h.waits i (record { condvar = c; bound = bound; polled = false; listed = false; alone = false }) }) answers.Made
 
@@ -87,6 +94,7 @@ abbrev pub noted_at : Names CondWait → ℕ → Option CondWait → Names CondW
 noted_at ws f None = ws
 noted_at ws f (Some x) = insert ws f (record x { alone = true })
 
+-- the same of the wait f, if it is there
 abbrev pub noted : Names CondWait → ℕ → Names CondWait
 noted ws f = noted_at ws f (get ws f)
 
@@ -106,17 +114,21 @@ end_wait h f x q =
     else if x.alone then notify_one (record h { waits = remove h.waits f }) x.condvar q
     else quietly (record h { waits = remove h.waits f }) answers.Done
 
+-- the condition variable c is gone
 abbrev pub drop : Condvars → ℕ → Outcome Condvars
 drop h c = quietly (record h { condvars = remove h.condvars c }) answers.Done
 
 -- ---- codes, by which a proof tells two values apart
+-- of those who wait, each with its waker
 abbrev pub waiting_code : Coded Waiting
 waiting_code = coded_list (coded× coded_ℕ coded_ℕ)
 
+-- of a wait
 abbrev pub wait_code : Coded CondWait
 wait_code =
     code_by (ℕ × (Option ℕ × (Bool × (Bool × Bool)))) (coded× coded_ℕ (coded× (coded_option coded_ℕ) (coded× coded_bool (coded× coded_bool coded_bool))))
     (λ x. (x.condvar, (x.bound, (x.polled, (x.listed, x.alone))))) (λ p. record { condvar = p.0; bound = p.1.0; polled = p.1.1.0; listed = p.1.1.1.0; alone = p.1.1.1.1 }) (λ _. refl)
 
+-- of condition variables by name
 abbrev pub condvars_code : Coded Condvars
 condvars_code = code_by (Names Waiting × Names CondWait) (coded× (names_code waiting_code) (names_code wait_code)) (λ h. (h.condvars, h.waits)) (λ p. record { condvars = p.0; waits = p.1 }) (λ _. refl)

@@ -23,6 +23,7 @@ pub record Future : Type 0 where
   pub sort : Sort
   pub name : ℕ
 
+-- the waker with which a future of this sort is polled by what a line means, if it is
 abbrev pub polled_by : Meaning → Sort → ℕ → Option ℕ
 polled_by (OnLocks Mutexes a) (Of Mutexes) f = polled_in a f
 polled_by (OnLocks RwLocks a) (Of RwLocks) f = polled_in a f
@@ -33,6 +34,7 @@ polled_by _ _ f = None
 abbrev pub polled : LockEvent → Future → Option ℕ
 polled e f = polled_by (meaning_of e) f.sort f.name
 
+-- whether a future of this sort ends by what a line means
 abbrev pub ends_by : Meaning → Sort → ℕ → Bool
 ends_by (OnLocks Mutexes a) (Of Mutexes) f = ends_in a f
 ends_by (OnLocks RwLocks a) (Of RwLocks) f = ends_in a f
@@ -43,10 +45,12 @@ ends_by _ _ f = false
 abbrev pub ends : LockEvent → Future → Bool
 ends e f = ends_by (meaning_of e) f.sort f.name
 
+-- whether f is a future of this sort
 abbrev pub lives_as : LockHall → Sort → ℕ → Bool
 lives_as h (Of k) f = is_lock_future (part h k) f
 lives_as h Waits f = is_wait h.condvars f && is_condvar_future h.mutexes f
 
+-- whether a future is there
 abbrev pub lives : LockHall → Future → Bool
 lives h f = lives_as h f.sort f.name
 
@@ -55,6 +59,7 @@ abbrev pub placed_for : LockHall → ℕ → Option CondWait → Option ℕ
 placed_for h f None = None
 placed_for h f (Some x) = if x.listed then waker_for (named_queue.queue_of queue_of (get h.condvars.condvars x.condvar)) f else locks.placed h.mutexes f
 
+-- the waker that is kept for f, a future of this sort
 abbrev pub placed_as : LockHall → Sort → ℕ → Option ℕ
 placed_as h (Of k) f = locks.placed (part h k) f
 placed_as h Waits f = placed_for h f (get h.condvars.waits f)
@@ -63,5 +68,6 @@ placed_as h Waits f = placed_for h f (get h.condvars.waits f)
 abbrev pub placed : LockHall → Future → Option ℕ
 placed h f = placed_as h f.sort f.name
 
+-- the family: what the laws of all families are told of locks and condition variables
 abbrev pub locks_family : Family
 locks_family = record { Hall = LockHall; Event = LockEvent; Future = Future; empty = empty_hall; cause = cause_of; step = step; polled = polled; ends = ends; name = λ f. f.name; lives = lives; placed = placed }

@@ -6,15 +6,18 @@ use Rattle.mea_lock_model.specs.Locks.{Locks, no_locks, locks_code}
 use Rattle.mea_lock_model.specs.Condvars as condvars
 use Rattle.mea_lock_model.specs.Condvars.{Condvars, no_condvars, condvars_code}
 
+-- mutexes, and reader-writer locks
 pub data Kind : Type 0 where
   Mutexes : Kind
   RwLocks : Kind
 
+-- the locks of each kind, and the condition variables, by name
 pub record LockHall : Type 0 where
   pub mutexes : Locks
   pub rw_locks : Locks
   pub condvars : Condvars
 
+-- no lock and no condition variable
 abbrev pub empty_hall : LockHall
 empty_hall = record { mutexes = no_locks; rw_locks = no_locks; condvars = no_condvars }
 
@@ -32,6 +35,7 @@ with_part h RwLocks p = record h { rw_locks = p }
 abbrev pub registered : LockHall → ℕ
 registered h = locks.registered h.mutexes + locks.registered h.rw_locks + condvars.registered h.condvars
 
+-- by which a proof tells two halls apart
 abbrev pub hall_code : Coded LockHall
 hall_code =
     code_by (Locks × (Locks × Condvars)) (coded× locks_code (coded× locks_code condvars_code))

@@ -71,20 +71,25 @@ within h k o = record { hall = with_part h k o.hall; reply = o.reply; wakes = o.
 abbrev pub cause_at : Locks → Action → Option Stop
 cause_at h a = if is_of_wait a then Some stops.Unknown else cause_in h a
 
+-- why what a line means is refused; none where it is not
 abbrev pub cause_by : LockHall → Meaning → Option Stop
 cause_by h (OnLocks k a) = cause_at (part h k) a
 cause_by h (OnCondvars a) = cause_on h a
 
+-- why a line is refused; none where it is not
 abbrev pub cause_of : LockHall → LockEvent → Option Stop
 cause_of h e = cause_by h (meaning_of e)
 
+-- what follows where what a line means is done under number i
 abbrev pub step_by : LockHall → ℕ → Meaning → Outcome LockHall
 step_by h i (OnLocks k a) = within h k (act_in (part h k) i a)
 step_by h i (OnCondvars a) = act_on h i a
 
+-- what follows where line i is played
 abbrev pub step : LockHall → ℕ → LockEvent → Outcome LockHall
 step h i e = step_by h i (meaning_of e)
 
+-- whether what a line means can register a waker
 abbrev pub registers_by : Meaning → Bool
 registers_by (OnLocks k a) = registers_in a
 registers_by (OnCondvars a) = registers_on a

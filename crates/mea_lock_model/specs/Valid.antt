@@ -15,6 +15,7 @@ pub record FitGuards (h : Locks) : Type 0 where
   pub some : (o : ℕ) (r : Lock) → get h.locks o ≡ Some r → 0 < r.most
   pub all : (o : ℕ) (r : Lock) → get h.locks o ≡ Some r → r.free + held_by r (own (λ (x : LockGuard). x.lock) o h.guards) ≤ r.most
 
+-- and so for each kind of locks
 pub record AllFit (h : LockHall) : Type 0 where
   pub mutexes : FitGuards h.mutexes
   pub rw_locks : FitGuards h.rw_locks

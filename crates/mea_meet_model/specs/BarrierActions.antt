@@ -10,6 +10,7 @@ use Rattle.mea_meet_model.specs.Barriers.{Barriers, is_barrier, is_wait, waits_o
 pub use Rattle.mea_meet_model.specs.declared.barrier_action.BarrierAction.{BarrierAction}
 pub use Rattle.mea_meet_model.specs.declared.barrier_action.BarrierAction.TheVariants.{Make, Begin, Poll, End, Drop}
 
+-- why an action is refused; none where it is not
 abbrev pub cause_at : Barriers → BarrierAction → Option Stop
 cause_at h (Make n) = None
 cause_at h (Begin b) = unknown_unless (is_barrier h b)

@@ -13,5 +13,6 @@ abbrev pub cause_by : Hall → Meaning → Option Stop
 cause_by h (OnBarriers a) = cause_at h.barriers a
 cause_by h (OnCounts k a) = cause_in (part h k) a
 
+-- why a line is refused; none where it is not
 abbrev pub cause_of : Hall → MeetEvent → Option Stop
 cause_of h e = cause_by h (meaning_of e)

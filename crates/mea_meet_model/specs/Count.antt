@@ -24,6 +24,7 @@ decreased c n = record { number = c.number - n; waiting = if ends c n then [] el
 abbrev pub woken_by : Count → ℕ → List ℕ
 woken_by c n = if ends c n then wakers c.waiting else []
 
+-- one more
 abbrev pub increased : Count → Count
 increased c = record c { number = c.number + 1 }
 
@@ -31,5 +32,6 @@ increased c = record c { number = c.number + 1 }
 abbrev pub with_waker : Count → ℕ → ℕ → Count
 with_waker c f w = record c { waiting = registering c.waiting f w }
 
+-- by which a proof tells two counts apart
 abbrev pub count_code : Coded Count
 count_code = code_by (ℕ × Waiting) (coded× coded_ℕ (coded_list (coded× coded_ℕ coded_ℕ))) (λ c. (c.number, c.waiting)) (λ p. record { number = p.0; waiting = p.1 }) (λ _. refl)

@@ -9,6 +9,7 @@ use Rattle.mea_family.specs.Play.{found}
 use Rattle.mea_meet_model.specs.Counts as counts
 use Rattle.mea_meet_model.specs.Counts.{Counts, New, Holder, is_holder, is_sender, is_wait, borrowers_of, point_at}
 
+-- what is done to a point that counts, or to what is of one
 pub data Action : Type 0 where
   Make : New → Action
   -- a holder tells the signal's number, or whether it is 0; or takes from it
@@ -45,10 +46,12 @@ abbrev pub join_cause : Counts → Option Holder → Option Stop
 join_cause h None = Some stops.Unknown
 join_cause h (Some x) = if x.counted then overflow_at (point_at h x.point).members.number else None
 
+-- whether a holder is there and is counted
 abbrev pub is_counted : Option Holder → Bool
 is_counted None = false
 is_counted (Some x) = x.counted
 
+-- why an action is refused; none where it is not
 abbrev pub cause_in : Counts → Action → Option Stop
 cause_in h (Make new) = None
 cause_in h (Number k) = unknown_unless (is_holder h k)
@@ -73,6 +76,7 @@ cause_in h (EndSender k) = unknown_unless (is_sender h k)
 abbrev pub end_by : Counts → ℕ → Outcome Counts
 end_by h f = found (get h.waits f) h (λ x. found (get h.points x.point) h (counts.end_wait h f x))
 
+-- the end of a holder at its point
 abbrev pub leave_by : Counts → ℕ → Outcome Counts
 leave_by h k = found (get h.holders k) h (λ x. found (get h.points x.point) h (counts.end_holder h k x))
 

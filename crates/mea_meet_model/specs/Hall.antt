@@ -19,6 +19,7 @@ pub record Hall : Type 0 where
   pub groups : Counts
   pub shutdowns : Counts
 
+-- no meeting point
 abbrev pub empty_hall : Hall
 empty_hall = record { barriers = no_barriers; latches = no_counts; groups = no_counts; shutdowns = no_counts }
 

@@ -9,6 +9,7 @@ use Rattle.mea_meet_model.specs.BarrierActions.{Poll}
 use Rattle.mea_meet_model.specs.Hall.{Hall}
 use Rattle.mea_meet_model.specs.Meaning.{Meaning, OnBarriers, meaning_of}
 
+-- whether the answer is that of the leader
 abbrev pub is_leader : Answer → Bool
 is_leader answers.Leader = true
 is_leader _ = false
@@ -18,14 +19,17 @@ abbrev pub leads_new : Barrier → Option ℕ → Bool
 leads_new r None = leads r
 leads_new r (Some round) = false
 
+-- the same at a barrier, which may be gone
 abbrev pub leads_there : Option Barrier → Option ℕ → Bool
 leads_there None round = false
 leads_there (Some r) round = leads_new r round
 
+-- the same of this future, if it is there
 abbrev pub leads_wait : Barriers → Option BarrierWait → Bool
 leads_wait h None = false
 leads_wait h (Some x) = leads_there (map.get h.barriers x.barrier) x.round
 
+-- the same of the future that a line polls by what it means
 abbrev pub leads_meant : Hall → Meaning → Bool
 leads_meant h (OnBarriers (Poll f w)) = leads_wait h.barriers (map.get h.barriers.waits f)
 leads_meant h _ = false
@@ -39,10 +43,12 @@ abbrev pub arrivals_new : Option ℕ → ℕ
 arrivals_new None = 1
 arrivals_new (Some round) = 0
 
+-- how often this future arrives at b by its next poll
 abbrev pub arrivals_wait : Option BarrierWait → ℕ → ℕ
 arrivals_wait None b = 0
 arrivals_wait (Some x) b = cond (x.barrier == b) (arrivals_new x.round) 0
 
+-- how many arrivals at b what a line means makes
 abbrev pub arrivals_meant : Hall → Meaning → ℕ → ℕ
 arrivals_meant h (OnBarriers (Poll f w)) b = arrivals_wait (map.get h.barriers.waits f) b
 arrivals_meant h _ b = 0

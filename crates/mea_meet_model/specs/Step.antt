@@ -14,6 +14,7 @@ use Rattle.mea_meet_model.specs.Meaning.{Meaning, OnBarriers, OnCounts, meaning_
 abbrev pub on_barriers : Hall → Outcome Barriers → Outcome Hall
 on_barriers h o = record { hall = record h { barriers = o.hall }; reply = o.reply; wakes = o.wakes }
 
+-- the same of points that count, of a kind
 abbrev pub on_counts : Hall → Kind → Outcome Counts → Outcome Hall
 on_counts h k o = record { hall = with_part h k o.hall; reply = o.reply; wakes = o.wakes }
 
@@ -22,9 +23,11 @@ abbrev pub step_by : Hall → ℕ → Meaning → Outcome Hall
 step_by h i (OnBarriers a) = on_barriers h (act_at h.barriers i a)
 step_by h i (OnCounts k a) = on_counts h k (act_in (part h k) i a)
 
+-- what follows where line i is played
 abbrev pub step : Hall → ℕ → MeetEvent → Outcome Hall
 step h i e = step_by h i (meaning_of e)
 
+-- whether what a line means can register a waker
 abbrev pub registers_by : Meaning → Bool
 registers_by (OnBarriers a) = registers_at a
 registers_by (OnCounts k a) = registers_in a

@@ -27,6 +27,7 @@ pub record IsBarrier (b : ℕ) (r : Barrier) (ws : Names BarrierWait) (n : ℕ) 
   pub named : (f w : ℕ) → waker_for r.waiting f ≡ Some w → f < n
   pub in_round : (f w : ℕ) (x : BarrierWait) → waker_for r.waiting f ≡ Some w → get ws f ≡ Some x → (x.barrier ≡ b) × (x.round ≡ Some (round_now r))
 
+-- all barriers with their futures, each of which is of one that is there
 pub record HasBarriers (h : Barriers) (n : ℕ) : Type 0 where
   pub each : (b : ℕ) (r : Barrier) → get h.barriers b ≡ Some r → IsBarrier b r h.waits n
   pub waits : AreHome barriers.of_wait h.barriers h.waits n
@@ -49,6 +50,7 @@ pub record AreThere (o : ℕ) (r : Point) (ws : Names Wait) (n : ℕ) : Type 0 w
   pub named : (e : End) (f w : ℕ) → waker_for (count_at e r).waiting f ≡ Some w → f < n
   pub waiting : (e : End) (f w : ℕ) (x : Wait) → waker_for (count_at e r).waiting f ≡ Some w → get ws f ≡ Some x → (x.point ≡ o) × (end_of x.awaits ≡ e)
 
+-- all points of a kind, with what is of them
 pub record HasCounts (h : Counts) (n : ℕ) : Type 0 where
   pub each : (o : ℕ) (r : Point) → get h.points o ≡ Some r → IsPoint r (own of_wait o h.waits) (own of_holder o h.holders)
   pub there : (o : ℕ) (r : Point) → get h.points o ≡ Some r → AreThere o r h.waits n
@@ -65,6 +67,7 @@ pub record HasCounts (h : Counts) (n : ℕ) : Type 0 where
 abbrev pub BorrowNothing : Counts → Type 0
 BorrowNothing h = (f : ℕ) (x : Wait) → get h.waits f ≡ Some x → x.awaits ≡ Members
 
+-- and so for each kind of meeting points
 pub record IsValid (h : Hall) (n : ℕ) : Type 0 where
   pub barriers : HasBarriers h.barriers n
   pub latches : HasCounts h.latches n

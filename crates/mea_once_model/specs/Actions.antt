@@ -12,6 +12,7 @@ use Rattle.mea_once_model.specs.declared.whole_use.WholeUse.{WholeUse}
 use Rattle.mea_once_model.specs.Cells as cells
 use Rattle.mea_once_model.specs.Cells.{Cells, is_cell, is_future, is_unsettled, is_alone, futures_of, alone_of}
 
+-- what is done to a cell, or by one of its futures
 pub data Action : Type 0 where
   -- a cell, with this value or none
   Make : Option ℕ → Action
@@ -34,6 +35,7 @@ pub data Action : Type 0 where
 abbrev pub in_the_way : Cells → ℕ → Errand → ℕ
 in_the_way h o errand = if is_alone errand then futures_of h o else alone_of h o
 
+-- why an action is refused; none where it is not
 abbrev pub cause_in : Cells → Action → Option Stop
 cause_in h (Make v) = None
 cause_in h (Begin o errand) = borrowed_by (is_cell h o) (in_the_way h o errand)

@@ -33,20 +33,25 @@ pub record CellFuture : Type 0 where
   pub errand : Errand
   pub polled : Bool
 
+-- cells by name, and their futures by name
 pub record Cells : Type 0 where
   pub cells : Names Cell
   pub futures : Names CellFuture
 
+-- no cell and no future
 abbrev pub no_cells : Cells
 no_cells = record { cells = empty; futures = empty }
 
 -- ---- what lives
+-- whether o is a cell
 abbrev pub is_cell : Cells → ℕ → Bool
 is_cell h o = is_some (get h.cells o)
 
+-- whether f is a future
 abbrev pub is_future : Cells → ℕ → Bool
 is_future h f = is_some (get h.futures f)
 
+-- whether an initialiser is not settled
 abbrev pub is_open : Initialiser → Bool
 is_open Unsettled = true
 is_open _ = false
@@ -58,13 +63,16 @@ can_settle (Computes i) = is_open i
 can_settle (Alone i) = is_open i
 can_settle _ = false
 
+-- the same of a future, which may be gone
 abbrev pub settles_in : Option CellFuture → Bool
 settles_in None = false
 settles_in (Some x) = can_settle x.errand
 
+-- the same of the future f
 abbrev pub is_unsettled : Cells → ℕ → Bool
 is_unsettled h f = settles_in (get h.futures f)
 
+-- whether it uses its cell alone
 abbrev pub is_alone : Errand → Bool
 is_alone (Alone i) = true
 is_alone _ = false
@@ -106,6 +114,7 @@ has_filled Awaits v = answers.Ready
 has_filled _ v = answers.Value v
 
 -- ---- what becomes of a cell
+-- a cell with this value or none, which nobody uses
 abbrev pub new_cell : Option ℕ → Cell
 new_cell v = record { value = v; taken = false; queue = []; runner = []; waits = [] }
 
@@ -114,6 +123,7 @@ abbrev pub passed : Waiting → Cell → Cell
 passed [] c = record c { taken = false; queue = [] }
 passed (e ∷ q) c = record c { queue = q }
 
+-- whom the turn wakes: the first of these, or nobody
 abbrev pub woken_next : Waiting → List ℕ
 woken_next [] = []
 woken_next (e ∷ q) = e.1 ∷ []
@@ -127,6 +137,7 @@ abbrev pub filled : ℕ → ℕ → Cell → Cell
 filled f v c = passed c.queue (record c { value = Some v; runner = without c.runner f; waits = [] })
 
 -- ---- what a future does
+-- what its initialiser comes to: a value to be set is one that is settled already
 abbrev pub init_of : Errand → Initialiser
 init_of (Calls i) = i
 init_of (Computes i) = i
@@ -135,6 +146,7 @@ init_of (Sets v) = Gives v
 init_of (Inserts v) = Gives v
 init_of Awaits = Unsettled
 
+-- what a future does, with this in place of its initialiser, if it has one
 abbrev pub settled : Initialiser → Errand → Errand
 settled r (Calls i) = Calls r
 settled r (Computes i) = Computes r
@@ -143,12 +155,15 @@ settled r (Sets v) = Sets v
 settled r (Inserts v) = Inserts v
 settled r Awaits = Awaits
 
+-- the cell o is this now
 abbrev pub with_cell : Cells → ℕ → Cell → Cells
 with_cell h o c = record h { cells = insert h.cells o c }
 
+-- a cell is made, with this value or none
 abbrev pub make : Cells → ℕ → Option ℕ → Outcome Cells
 make h i v = quietly (with_cell h i (new_cell v)) answers.Made
 
+-- a future of o is made, which was never polled
 abbrev pub begin : Cells → ℕ → ℕ → Errand → Outcome Cells
 begin h i o errand = quietly (record h { futures = insert h.futures i (record { cell = o; errand = errand; polled = false }) }) answers.Made
 
@@ -239,9 +254,11 @@ end_at h f x None = quietly (record h { futures = remove h.futures f }) answers.
 end_at h f x (Some c) = applied h f x.cell (end f x c)
 
 -- ---- for who has the whole cell
+-- the value is told, or that there is none
 abbrev pub tell : Cells → Cell → Outcome Cells
 tell h c = quietly h (content c.value)
 
+-- it is told whether there is a value
 abbrev pub tell_full : Cells → Cell → Outcome Cells
 tell_full h c = quietly h (if is_some c.value then answers.Yes else answers.No)
 
@@ -266,31 +283,38 @@ abbrev pub gone : Cells → ℕ → Answer → Outcome Cells
 gone h o reply = quietly (record h { cells = remove h.cells o }) reply
 
 -- ---- codes, by which a proof tells two values apart
+-- of those who wait, each with its waker
 abbrev pub waiting_code : Coded Waiting
 waiting_code = coded_list (coded× coded_ℕ coded_ℕ)
 
+-- of a cell
 abbrev pub cell_code : Coded Cell
 cell_code =
     code_by (Option ℕ × (Bool × (Waiting × (Waiting × Waiting)))) (coded× (coded_option coded_ℕ) (coded× coded_bool (coded× waiting_code (coded× waiting_code waiting_code))))
     (λ c. (c.value, (c.taken, (c.queue, (c.runner, c.waits))))) (λ p. record { value = p.0; taken = p.1.0; queue = p.1.1.0; runner = p.1.1.1.0; waits = p.1.1.1.1 }) (λ _. refl)
 
+-- an initialiser as two numbers
 abbrev pub init_number : Initialiser → ℕ × ℕ
 init_number Unsettled = (0, 0)
 init_number (Gives v) = (1, v)
 init_number (Fails e) = (2, e)
 
+-- and back
 abbrev pub init_of_number : ℕ × ℕ → Initialiser
 init_of_number (zero, v) = Unsettled
 init_of_number (suc zero, v) = Gives v
 init_of_number (suc (suc n), v) = Fails v
 
+-- from the numbers of an initialiser it comes back
 pub init_back : (i : Initialiser) → init_of_number (init_number i) ≡ i
 init_back Unsettled = refl
 init_back _ = refl
 
+-- of an initialiser
 abbrev pub init_code : Coded Initialiser
 init_code = code_by (ℕ × ℕ) (coded× coded_ℕ coded_ℕ) init_number init_of_number init_back
 
+-- what a future does as a number, with its initialiser or its value
 abbrev pub errand_number : Errand → ℕ × (Initialiser × ℕ)
 errand_number (Calls i) = (0, (i, 0))
 errand_number (Computes i) = (1, (i, 0))
@@ -299,6 +323,7 @@ errand_number (Sets v) = (3, (Unsettled, v))
 errand_number (Inserts v) = (4, (Unsettled, v))
 errand_number Awaits = (5, (Unsettled, 0))
 
+-- and back
 abbrev pub errand_of_number : ℕ × (Initialiser × ℕ) → Errand
 errand_of_number (zero, p) = Calls p.0
 errand_of_number (suc zero, p) = Computes p.0
@@ -307,15 +332,19 @@ errand_of_number (suc (suc (suc zero)), p) = Sets p.1
 errand_of_number (suc (suc (suc (suc zero))), p) = Inserts p.1
 errand_of_number (suc (suc (suc (suc (suc n)))), p) = Awaits
 
+-- from them it comes back
 pub errand_back : (x : Errand) → errand_of_number (errand_number x) ≡ x
 errand_back (Calls i) = refl
 errand_back _ = refl
 
+-- of what a future does
 abbrev pub errand_code : Coded Errand
 errand_code = code_by (ℕ × (Initialiser × ℕ)) (coded× coded_ℕ (coded× init_code coded_ℕ)) errand_number errand_of_number errand_back
 
+-- of a future
 abbrev pub future_code : Coded CellFuture
 future_code = code_by (ℕ × (Errand × Bool)) (coded× coded_ℕ (coded× errand_code coded_bool)) (λ x. (x.cell, (x.errand, x.polled))) (λ p. record { cell = p.0; errand = p.1.0; polled = p.1.1 }) (λ _. refl)
 
+-- of cells by name
 abbrev pub cells_code : Coded Cells
 cells_code = code_by (Names Cell × Names CellFuture) (coded× (names_code cell_code) (names_code future_code)) (λ h. (h.cells, h.futures)) (λ p. record { cells = p.0; futures = p.1 }) (λ _. refl)

@@ -10,6 +10,7 @@ use Rattle.mea_once_model.specs.declared.errand.Initialiser.{Initialiser}
 use Rattle.mea_once_model.specs.Tables as tables
 use Rattle.mea_once_model.specs.Tables.{Table, KeyFuture, Tables, is_table, is_future, is_unsettled, futures_of, without_key}
 
+-- what is done to a map or a group, or by one of its futures
 pub data KeyAction : Type 0 where
   -- a map or a group
   MakeTable : KeyAction
@@ -26,6 +27,7 @@ pub data KeyAction : Type 0 where
   -- it is gone
   DropTable : ℕ → KeyAction
 
+-- why an action is refused; none where it is not
 abbrev pub key_cause : Tables → KeyAction → Option Stop
 key_cause h MakeTable = None
 key_cause h (BeginKey o k) = unknown_unless (is_table h o)

@@ -16,6 +16,7 @@ pub record IsValidFuture (t : Table) (x : KeyFuture) : Type 0 where
   pub round : (n : ℕ) → x.round ≡ Some n → IsSome (get t.rounds n)
   pub key : (n k : ℕ) → x.round ≡ Some n → get t.current k ≡ Some n → k ≡ x.key
 
+-- all maps, or all groups, with their futures
 pub record AreValid (h : Tables) : Type 0 where
   pub tables : (o : ℕ) (t : Table) → get h.tables o ≡ Some t → IsValidTable t
   pub home : (f : ℕ) (x : KeyFuture) → get h.futures f ≡ Some x → IsSome (get h.tables x.table)

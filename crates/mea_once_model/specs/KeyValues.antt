@@ -4,6 +4,7 @@ use Rattle.std.specs.FinMap.{get}
 use Rattle.mea_once_model.specs.Tables.{Table, Tables}
 use Rattle.mea_once_model.specs.KeyActions.{KeyAction, DiscardKey, RemoveKey, DropTable}
 
+-- the value that key k has in a map or a group, which may be gone
 abbrev pub value_in : Option Table → ℕ → Option ℕ
 value_in None k = None
 value_in (Some t) k = get t.values k

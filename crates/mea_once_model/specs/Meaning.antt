@@ -32,12 +32,15 @@ pub data Meaning : Type 0 where
 abbrev pub on_onces : Action → Meaning
 on_onces a = OfCells (record { kind = Onces; action = a })
 
+-- it is done to cells
 abbrev pub on_cells : Action → Meaning
 on_cells a = OfCells (record { kind = OnceCells; action = a })
 
+-- it is done to maps
 abbrev pub on_maps : KeyAction → Meaning
 on_maps a = OfTables (record { kind = Maps; action = a })
 
+-- it is done to groups
 abbrev pub on_groups : KeyAction → Meaning
 on_groups a = OfTables (record { kind = Groups; action = a })
 
@@ -86,10 +89,12 @@ meaning_of (SfForget g k) = on_groups (DiscardKey g k)
 meaning_of (SfEnd f) = on_groups (EndKey f)
 meaning_of (SfDrop g) = on_groups (DropTable g)
 
+-- why what a line means is refused; none where it is not
 abbrev pub cause_by : OnceHall → Meaning → Option Stop
 cause_by h (OfCells d) = cause_in (part h d.kind) d.action
 cause_by h (OfTables d) = key_cause (tables_of h d.kind) d.action
 
+-- why a line is refused; none where it is not
 abbrev pub cause_of : OnceHall → OnceEvent → Option Stop
 cause_of h e = cause_by h (meaning_of e)
 
@@ -101,13 +106,16 @@ within h k o = record { hall = with_part h k o.hall; reply = o.reply; wakes = o.
 abbrev pub within_tables : OnceHall → TableKind → Outcome Tables → Outcome OnceHall
 within_tables h k o = record { hall = with_tables h k o.hall; reply = o.reply; wakes = o.wakes }
 
+-- what follows where what a line means is done under number i
 abbrev pub step_by : OnceHall → ℕ → Meaning → Outcome OnceHall
 step_by h i (OfCells d) = within h d.kind (act_in (part h d.kind) i d.action)
 step_by h i (OfTables d) = within_tables h d.kind (key_act (is_once d.kind) (tables_of h d.kind) i d.action)
 
+-- what follows where line i is played
 abbrev pub step : OnceHall → ℕ → OnceEvent → Outcome OnceHall
 step h i e = step_by h i (meaning_of e)
 
+-- whether what a line means can register a waker
 abbrev pub registers_by : Meaning → Bool
 registers_by (OfCells d) = registers_in d.action
 registers_by (OfTables d) = key_registers d.action

@@ -16,12 +16,14 @@ pub data TableKind : Type 0 where
   Maps : TableKind
   Groups : TableKind
 
+-- the calls that run once, the cells, the maps and the groups, by name
 pub record OnceHall : Type 0 where
   pub onces : Cells
   pub cells : Cells
   pub maps : Tables
   pub groups : Tables
 
+-- nothing of either
 abbrev pub empty_hall : OnceHall
 empty_hall = record { onces = no_cells; cells = no_cells; maps = no_tables; groups = no_tables }
 
@@ -40,10 +42,12 @@ abbrev pub tables_of : OnceHall → TableKind → Tables
 tables_of h Maps = h.maps
 tables_of h Groups = h.groups
 
+-- those of a kind are these now
 abbrev pub with_tables : OnceHall → TableKind → Tables → OnceHall
 with_tables h Maps p = record h { maps = p }
 with_tables h Groups p = record h { groups = p }
 
+-- whether a value is for its round alone
 abbrev pub is_once : TableKind → Bool
 is_once Maps = false
 is_once Groups = true
@@ -52,6 +56,7 @@ is_once Groups = true
 abbrev pub registered : OnceHall → ℕ
 registered h = cells.registered h.onces + cells.registered h.cells + (tables.registered h.maps + tables.registered h.groups)
 
+-- by which a proof tells two halls apart
 abbrev pub hall_code : Coded OnceHall
 hall_code =
     code_by (Cells × (Cells × (Tables × Tables))) (coded× cells_code (coded× cells_code (coded× tables_code tables_code)))

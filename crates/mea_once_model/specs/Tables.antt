@@ -32,23 +32,29 @@ pub record KeyFuture : Type 0 where
   pub init : Initialiser
   pub round : Option ℕ
 
+-- maps, or groups, by name, and their futures by name
 pub record Tables : Type 0 where
   pub tables : Names Table
   pub futures : Names KeyFuture
 
+-- no map or group, and no future
 abbrev pub no_tables : Tables
 no_tables = record { tables = empty; futures = empty }
 
+-- one in which no key was computed
 abbrev pub new_table : Table
 new_table = record { values = empty; current = empty; rounds = empty }
 
 -- ---- what lives
+-- whether o is a map or a group
 abbrev pub is_table : Tables → ℕ → Bool
 is_table h o = is_some (get h.tables o)
 
+-- whether f is a future
 abbrev pub is_future : Tables → ℕ → Bool
 is_future h f = is_some (get h.futures f)
 
+-- whether a future is there whose initialiser is not settled
 abbrev pub settles_in : Option KeyFuture → Bool
 settles_in None = false
 settles_in (Some x) = is_open x.init
@@ -61,6 +67,7 @@ is_unsettled h f = settles_in (get h.futures f)
 abbrev pub futures_of : Tables → ℕ → ℕ
 futures_of h o = len (own (λ (x : KeyFuture). x.table) o h.futures)
 
+-- whether this is n
 abbrev pub is_this : ℕ → Option ℕ → Bool
 is_this n None = false
 is_this n (Some m) = m == n
@@ -74,18 +81,22 @@ abbrev pub registered : Tables → ℕ
 registered h = total (λ o t. named_queue.registered waiting_at t.rounds) h.tables
 
 -- ---- the waker that is kept for a future: it stands in its round
+-- the rounds of a map or a group; of one that is gone none
 abbrev pub rounds_of : Option Table → Names Cell
 rounds_of None = empty
 rounds_of (Some t) = t.rounds
 
+-- the waker that is kept for f in a round, if f has one
 abbrev pub placed_in : Names Cell → ℕ → Option ℕ → Option ℕ
 placed_in rs f None = None
 placed_in rs f (Some n) = waker_for (queue_of waiting_at (get rs n)) f
 
+-- the same in the round of this future, if it is there
 abbrev pub placed_of : Names Table → ℕ → Option KeyFuture → Option ℕ
 placed_of ts f None = None
 placed_of ts f (Some x) = placed_in (rounds_of (get ts x.table)) f x.round
 
+-- the waker that is kept for f
 abbrev pub placed : Tables → ℕ → Option ℕ
 placed h f = placed_of h.tables f (get h.futures f)
 
@@ -125,6 +136,7 @@ abbrev pub caller_after : ℕ → KeyFuture → Option CellFuture → Option Key
 caller_after n x None = None
 caller_after n x (Some y) = Some (record x { init = cells.init_of y.errand; round = Some n })
 
+-- what becomes of a map or a group where a caller leaves; where it stays nothing does
 abbrev pub left_by : Option CellFuture → ℕ → ℕ → ℕ → Table → Table
 left_by None k n others t = left k n others t
 left_by (Some y) k n others t = t
@@ -165,6 +177,7 @@ abbrev pub first_poll : Bool → Tables → ℕ → ℕ → ℕ → KeyFuture �
 first_poll once h i f w x t None = join_round once h i f w x t (get t.current x.key)
 first_poll once h i f w x t (Some v) = applied h f x.table (finds t v)
 
+-- a future is polled in line i: a first poll, or one of a caller of its round
 abbrev pub poll : Bool → Tables → ℕ → ℕ → ℕ → KeyFuture → Table → Option ℕ → Outcome Tables
 poll once h i f w x t None = first_poll once h i f w x t (get t.values x.key)
 poll once h i f w x t (Some n) = in_round once h f x t (cells.poll f w) n
@@ -178,37 +191,46 @@ settle once h f r x t (Some n) = in_round once h f x t (cells.settle f r) n
 abbrev pub forgets : Tables → ℕ → Outcome Tables
 forgets h f = quietly (record h { futures = remove h.futures f }) answers.Done
 
+-- the same at its round, which may be gone
 abbrev pub end_at : Bool → Tables → ℕ → KeyFuture → Table → ℕ → Option Cell → Outcome Tables
 end_at once h f x t n None = forgets h f
 end_at once h f x t n (Some c) = applied h f x.table (at_round once x n (others_of h f x.table n) t (cells.end f (caller x) c))
 
+-- the same by its round, if it has one
 abbrev pub end_in : Bool → Tables → ℕ → KeyFuture → Table → Option ℕ → Outcome Tables
 end_in once h f x t None = forgets h f
 end_in once h f x t (Some n) = end_at once h f x t n (get t.rounds n)
 
+-- the end of the future f: it is gone, and with the last caller its round
 abbrev pub end : Bool → Tables → ℕ → KeyFuture → Option Table → Outcome Tables
 end once h f x None = forgets h f
 end once h f x (Some t) = end_in once h f x t x.round
 
+-- the map or group o is this now
 abbrev pub with_table : Tables → ℕ → Table → Tables
 with_table h o t = record h { tables = insert h.tables o t }
 
+-- a map or a group is made, with no key
 abbrev pub make : Tables → ℕ → Outcome Tables
 make h i = quietly (with_table h i new_table) answers.Made
 
+-- a future of o for the key k is made, which was never polled
 abbrev pub begin : Tables → ℕ → ℕ → ℕ → Outcome Tables
 begin h i o k = quietly (record h { futures = insert h.futures i (record { table = o; key = k; init = Unsettled; round = None }) }) answers.Made
 
 -- ---- codes, by which a proof tells two values apart
+-- of a map or a group
 abbrev pub table_code : Coded Table
 table_code =
     code_by (Names ℕ × (Names ℕ × Names Cell)) (coded× (names_code coded_ℕ) (coded× (names_code coded_ℕ) (names_code cell_code)))
     (λ t. (t.values, (t.current, t.rounds))) (λ p. record { values = p.0; current = p.1.0; rounds = p.1.1 }) (λ _. refl)
 
+-- of a future
 abbrev pub future_code : Coded KeyFuture
 future_code =
     code_by (ℕ × (ℕ × (Initialiser × Option ℕ))) (coded× coded_ℕ (coded× coded_ℕ (coded× init_code (coded_option coded_ℕ))))
     (λ x. (x.table, (x.key, (x.init, x.round)))) (λ p. record { table = p.0; key = p.1.0; init = p.1.1.0; round = p.1.1.1 }) (λ _. refl)
 
+-- of maps or groups by name
 abbrev pub tables_code : Coded Tables
 tables_code = code_by (Names Table × Names KeyFuture) (coded× (names_code table_code) (names_code future_code)) (λ h. (h.tables, h.futures)) (λ p. record { tables = p.0; futures = p.1 }) (λ _. refl)

@@ -24,6 +24,7 @@ pub record IsCell (c : Cell) (fs : Names CellFuture) : Type 0 where
   -- beside one that uses the cell alone there is no other
   pub alone : (f g : ℕ) (x y : CellFuture) → get fs f ≡ Some x → get fs g ≡ Some y → is_alone x.errand ≡ true → f ≡ g
 
+-- the cell of a future
 abbrev pub of_cell : CellFuture → ℕ
 of_cell x = x.cell
 
@@ -48,6 +49,7 @@ pub record IsTable (t : Table) (fs : Names KeyFuture) (n : ℕ) : Type 0 where
   pub called : (q : ℕ) → IsSome (get t.rounds q) → 1 ≤ len (callers_in q fs)
   pub below : (q : ℕ) → IsSome (get t.rounds q) → q < n
 
+-- the map or group of a future
 abbrev pub of_table : KeyFuture → ℕ
 of_table x = x.table
 
@@ -59,6 +61,7 @@ pub record HasTables (h : Tables) (n : ℕ) : Type 0 where
   pub below : (o : ℕ) → IsSome (get h.tables o) → o < n
   pub futures : AreHome of_table h.tables h.futures n
 
+-- and so for each kind of once types
 pub record IsValid (h : OnceHall) (n : ℕ) : Type 0 where
   pub onces : HasCells h.onces n
   pub cells : HasCells h.cells n

@@ -8,6 +8,7 @@ use Rattle.mea_events.specs.declared.sem_event.SemEvent.{SemEvent}
 use Rattle.mea_events.specs.declared.sem_event.SemEvent.TheVariants.{New, Free, Forget, Forgetx, Release, Try, Tryo, Tryf, Tryof, Acq, Acqo, Acqf, Acqof, Poll, End, Lose, Merge, Split, Size, Endsem, Ledger, Close, Closed}
 use Rattle.mea_sem_model.specs.Hall.{Hall, Semaphore, Permit, live, plain_things}
 
+-- whether a semaphore is there and has its name still
 abbrev pub is_named_semaphore : Option Semaphore → Bool
 is_named_semaphore None = false
 is_named_semaphore (Some r) = r.named
@@ -16,12 +17,15 @@ is_named_semaphore (Some r) = r.named
 abbrev pub is_named : Hall → ℕ → Bool
 is_named h s = is_named_semaphore (map.get h.semaphores s)
 
+-- whether f is a future
 abbrev pub is_future : Hall → ℕ → Bool
 is_future h f = is_some (map.get h.futures f)
 
+-- whether p is a permit
 abbrev pub is_permit : Hall → ℕ → Bool
 is_permit h p = is_some (map.get h.permits p)
 
+-- whether two permits are there, of one semaphore and one form
 abbrev pub are_of_one_kind : Option Permit → Option Permit → Bool
 are_of_one_kind None y = false
 are_of_one_kind (Some x) None = false
@@ -31,6 +35,7 @@ are_of_one_kind (Some x) (Some y) = x.semaphore == y.semaphore && (if x.plain th
 abbrev pub can_merge : Hall → ℕ → ℕ → Bool
 can_merge h p q = not (p == q) && are_of_one_kind (map.get h.permits p) (map.get h.permits q)
 
+-- why an event is refused; none where it is not
 abbrev pub cause_of : Hall → SemEvent → Option Stop
 cause_of h (New n) = None
 cause_of h (Free s) = unknown_unless (is_named h s)

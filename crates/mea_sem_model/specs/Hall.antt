@@ -40,16 +40,19 @@ pub record Future : Type 0 where
   pub forgets : Bool
   pub stage : FutureStage
 
+-- a permit: whose it is, how many it is for, and whether it is plain
 pub record Permit : Type 0 where
   pub semaphore : ℕ
   pub size : ℕ
   pub plain : Bool
 
+-- semaphores, futures and permits by name
 pub record Hall : Type 0 where
   pub semaphores : map.FinMap nat_cmp Semaphore
   pub futures : map.FinMap nat_cmp Future
   pub permits : map.FinMap nat_cmp Permit
 
+-- nothing
 abbrev pub empty_hall : Hall
 empty_hall = record { semaphores = map.empty; futures = map.empty; permits = map.empty }
 
@@ -61,6 +64,7 @@ made_with n = record { free = n; queue = []; made = n; released = 0; forgotten =
 abbrev pub semaphore_at : Hall → ℕ → Semaphore
 semaphore_at h s = unwrap_or (map.get h.semaphores s) (made_with 0)
 
+-- who waits at s, in order, and what each lacks
 abbrev pub queue_at : Hall → ℕ → List (Who × ℕ)
 queue_at h s = (semaphore_at h s).queue
 
@@ -79,6 +83,7 @@ names Debt f = false
 abbrev pub lack_of : List (Who × ℕ) → ℕ → ℕ
 lack_of q f = sum_by {X = Who × ℕ} (λ e. cond (names e.0 f) e.1 0) q
 
+-- what one that waits lacks, where it is a debt
 abbrev pub debt_of : Who → ℕ → ℕ
 debt_of (Waiter g) n = 0
 debt_of Debt n = n
@@ -128,13 +133,16 @@ poured r n = record r { free = r.free + left_over r.queue n; queue = waiting_aft
 abbrev pub staged : FutureStage → Future → Future
 staged t x = record x { stage = t }
 
+-- one that was paid in full
 abbrev pub granted : Future → Future
 granted x = staged Granted x
 
+-- the future f, if it is there, comes to a stage
 abbrev pub stage_if : FutureStage → map.FinMap nat_cmp Future → ℕ → Option Future → map.FinMap nat_cmp Future
 stage_if t m f None = m
 stage_if t m f (Some x) = map.insert m f (staged t x)
 
+-- the same of one that waits; a debt has none
 abbrev pub stage_who : FutureStage → map.FinMap nat_cmp Future → Who → map.FinMap nat_cmp Future
 stage_who t m (Waiter f) = stage_if t m f (map.get m f)
 stage_who t m Debt = m
@@ -148,6 +156,7 @@ stage_all t (w ∷ ws) m = stage_all t ws (stage_who t m w)
 abbrev pub grant_all : List Who → map.FinMap nat_cmp Future → map.FinMap nat_cmp Future
 grant_all ws m = stage_all Granted ws m
 
+-- the semaphore s is this now
 abbrev pub with_semaphore : Hall → ℕ → Semaphore → Hall
 with_semaphore h s r = record h { semaphores = map.insert h.semaphores s r }
 
@@ -158,16 +167,19 @@ pour h s n = record h {
   futures = grant_all (granted_in (queue_at h s) n) h.futures;
 }
 
+-- the waker that a stage keeps, if it keeps one
 abbrev pub waker_of : FutureStage → List ℕ
 waker_of New = []
 waker_of (Waiting w) = w ∷ []
 waker_of Granted = []
 waker_of Cut = []
 
+-- the same of a future, if it is there
 abbrev pub waker_of_future : Option Future → List ℕ
 waker_of_future None = []
 waker_of_future (Some x) = waker_of x.stage
 
+-- the same of one that waits; a debt has none
 abbrev pub waker_of_who : map.FinMap nat_cmp Future → Who → List ℕ
 waker_of_who m (Waiter f) = waker_of_future (map.get m f)
 waker_of_who m Debt = []
@@ -178,6 +190,7 @@ wakes_of h s n = flat_map (waker_of_who h.futures) (granted_in (queue_at h s) n)
 
 -- ---- closing
 
+-- what a future asks for, if it is there
 abbrev pub demand_at : Option Future → ℕ
 demand_at None = 0
 demand_at (Some x) = x.demand
@@ -191,6 +204,7 @@ paid_to_who m Debt lack = 0
 abbrev pub paid_in : map.FinMap nat_cmp Future → List (Who × ℕ) → ℕ
 paid_in m q = sum_by {X = Who × ℕ} (λ e. paid_to_who m e.0 e.1) q
 
+-- whether one that waits is a debt
 abbrev pub is_debt : Who → Bool
 is_debt (Waiter f) = false
 is_debt Debt = true
@@ -219,21 +233,26 @@ abbrev pub wakes_waiting : Hall → ℕ → List ℕ
 wakes_waiting h s = flat_map (waker_of_who h.futures) (everyone (queue_at h s))
 
 -- ---- codes, by which a proof tells two values apart
+-- one that waits as a number, if it is a future
 abbrev pub who_number : Who → Option ℕ
 who_number (Waiter f) = Some f
 who_number Debt = None
 
+-- and back
 abbrev pub who_of_number : Option ℕ → Who
 who_of_number (Some f) = Waiter f
 who_of_number None = Debt
 
+-- from that it comes back
 pub who_back : (w : Who) → who_of_number (who_number w) ≡ w
 who_back (Waiter f) = refl
 who_back Debt = refl
 
+-- of one that waits
 abbrev pub who_code : Coded Who
 who_code = code_by (Option ℕ) (coded_option coded_ℕ) who_number who_of_number who_back
 
+-- of a semaphore
 abbrev pub semaphore_code : Coded Semaphore
 semaphore_code =
     code_by (ℕ × (List (Who × ℕ) × (ℕ × (ℕ × (ℕ × (Bool × Bool))))))
@@ -242,27 +261,32 @@ semaphore_code =
     (λ p. record { free = p.0; queue = p.1.0; made = p.1.1.0; released = p.1.1.1.0; forgotten = p.1.1.1.1.0; named = p.1.1.1.1.1.0; closed = p.1.1.1.1.1.1 })
     (λ _. refl)
 
+-- a stage, with its waker if it keeps one
 abbrev pub stage_number : FutureStage → Option (Option (Option ℕ))
 stage_number New = None
 stage_number (Waiting w) = Some (Some (Some w))
 stage_number Granted = Some None
 stage_number Cut = Some (Some None)
 
+-- and back
 abbrev pub stage_of_number : Option (Option (Option ℕ)) → FutureStage
 stage_of_number None = New
 stage_of_number (Some (Some (Some w))) = Waiting w
 stage_of_number (Some None) = Granted
 stage_of_number (Some (Some None)) = Cut
 
+-- from that it comes back
 pub stage_back : (s : FutureStage) → stage_of_number (stage_number s) ≡ s
 stage_back New = refl
 stage_back (Waiting w) = refl
 stage_back Granted = refl
 stage_back Cut = refl
 
+-- of a stage
 abbrev pub stage_code : Coded FutureStage
 stage_code = code_by (Option (Option (Option ℕ))) (coded_option (coded_option (coded_option coded_ℕ))) stage_number stage_of_number stage_back
 
+-- of a future
 abbrev pub future_code : Coded Future
 future_code =
     code_by (ℕ × (ℕ × (Bool × (Bool × FutureStage)))) (coded× coded_ℕ (coded× coded_ℕ (coded× coded_bool (coded× coded_bool stage_code))))
@@ -270,9 +294,11 @@ future_code =
     (λ p. record { semaphore = p.0; demand = p.1.0; plain = p.1.1.0; forgets = p.1.1.1.0; stage = p.1.1.1.1 })
     (λ _. refl)
 
+-- of a permit
 abbrev pub permit_code : Coded Permit
 permit_code = code_by (ℕ × (ℕ × Bool)) (coded× coded_ℕ (coded× coded_ℕ coded_bool)) (λ p. (p.semaphore, (p.size, p.plain))) (λ p. record { semaphore = p.0; size = p.1.0; plain = p.1.1 }) (λ _. refl)
 
+-- of a hall
 abbrev pub hall_code : Coded Hall
 hall_code =
     code_by (map.FinMap nat_cmp Semaphore × (map.FinMap nat_cmp Future × map.FinMap nat_cmp Permit))

@@ -37,6 +37,7 @@ abbrev pub first_poll : List ToldSemEvent → ℕ → Option ℕ
 first_poll [] f = None
 first_poll (t ∷ older) f = option_or (first_poll older f) (poll_number t (waker_in t.event f))
 
+-- whether a reply is `ready`
 abbrev pub is_ready : Answer → Bool
 is_ready answers.Ready = true
 is_ready _ = false
@@ -73,6 +74,7 @@ GrantsInOrder r = (s m n f g i j v w : ℕ) → asked r.trace f ≡ Some (s, m) 
 abbrev pub IsPolledBefore : List ToldSemEvent → ℕ → ℕ → Type 0
 IsPolledBefore trace f g = (i : ℕ) × (j : ℕ) × (first_poll trace f ≡ Some i) × (first_poll trace g ≡ Some j) × (i < j)
 
+-- f was first polled before each of these was
 abbrev pub IsPolledBeforeAll : List ToldSemEvent → ℕ → List ℕ → Type 0
 IsPolledBeforeAll trace f [] = Unit {0}
 IsPolledBeforeAll trace f (g ∷ gs) = IsPolledBefore trace f g × IsPolledBeforeAll trace f gs
@@ -101,6 +103,7 @@ pub record Settles (r : Run) (t : ToldSemEvent) (older : List ToldSemEvent) : Ty
   pub paid_off : (f s n w : ℕ) → Contains futures f → asked older f ≡ Some (s, n) → reply_to_poll r.hall r.next f w ≡ answers.Ready → owed r.hall s ≡ 0
   pub closed : (f s n w : ℕ) → Contains futures f → asked older f ≡ Some (s, n) → reply_to_poll r.hall r.next f w ≡ answers.Gone → t.event ≡ events.Close s
 
+-- the same of the newest event, if there is one
 abbrev pub settles_of : Run → List ToldSemEvent → Type 0
 settles_of r [] = Unit {0}
 settles_of r (t ∷ older) = Settles r t older
@@ -118,5 +121,6 @@ pub record IsNotOvertaken (r : Run) (s n : ℕ) : Type 0 where
   pub forgetting : (step r.hall r.next (events.Tryf s n)).reply ≡ answers.No
   pub owned_forgetting : (step r.hall r.next (events.Tryof s n)).reply ≡ answers.No
 
+-- while an acquire that was polled waits, nobody gets a permit of its semaphore by a try
 abbrev pub LetsNobodyPast : Run → Type 0
 LetsNobodyPast r = (s m n f w : ℕ) → asked r.trace f ≡ Some (s, m) → IsSome (first_poll r.trace f) → reply_to_poll r.hall r.next f w ≡ answers.Pending → 0 < n → IsNotOvertaken r s n

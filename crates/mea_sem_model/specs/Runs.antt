@@ -25,6 +25,7 @@ waker_at (Waiting w) = Some w
 waker_at Granted = None
 waker_at Cut = None
 
+-- the same of a future, which may be gone
 abbrev pub waker_kept : Option Future → Option ℕ
 waker_kept None = None
 waker_kept (Some x) = waker_at x.stage
@@ -69,6 +70,7 @@ AllFit (t ∷ older) = Fits t.event × AllFit older
 
 -- ---- the permits that events made, released and forgot, summed again from the events and their replies
 
+-- n, where the semaphore q is s
 abbrev pub if_same : ℕ → ℕ → ℕ → ℕ
 if_same q s n = cond (q == s) n 0
 
@@ -77,6 +79,7 @@ abbrev pub made_by : ℕ → ToldSemEvent → SemEvent → ℕ
 made_by s t (events.New n) = if_same t.number s n
 made_by s t _ = 0
 
+-- what this event released to s
 abbrev pub released_by : ℕ → SemEvent → ℕ
 released_by s (events.Release q n) = if_same q s n
 released_by s _ = 0
@@ -106,6 +109,7 @@ abbrev pub forgetting_demand : ℕ → Option Future → ℕ
 forgetting_demand s None = 0
 forgetting_demand s (Some x) = cond (x.semaphore == s && x.forgets) x.demand 0
 
+-- what this event forgot of s, as its reply tells
 abbrev pub forgotten_by : ℕ → ToldSemEvent → SemEvent → ℕ
 forgotten_by s t (events.Forget q n) = if_same q s (number_forgot t.reply)
 forgotten_by s t (events.Forgetx q n) = if_same q s n
@@ -115,12 +119,15 @@ forgotten_by s t (events.Poll f w) = if_ready (forgetting_demand s (map.get t.be
 forgotten_by s t (events.Lose p) = if_permit_of s (map.get t.before.permits p) (number_forgot t.reply)
 forgotten_by s t _ = 0
 
+-- what all events made of s
 abbrev pub made : List ToldSemEvent → ℕ → ℕ
 made trace s = sum_by {X = ToldSemEvent} (λ t. made_by s t t.event) trace
 
+-- what all events released to s
 abbrev pub released : List ToldSemEvent → ℕ → ℕ
 released trace s = sum_by {X = ToldSemEvent} (λ t. released_by s t.event) trace
 
+-- what all events forgot of s
 abbrev pub forgotten : List ToldSemEvent → ℕ → ℕ
 forgotten trace s = sum_by {X = ToldSemEvent} (λ t. forgotten_by s t t.event) trace
 

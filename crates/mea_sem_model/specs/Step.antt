@@ -17,15 +17,19 @@ Outcome = family.Outcome Hall
 abbrev pub pouring : Hall → ℕ → ℕ → Outcome
 pouring h s n = record { hall = pour h s n; reply = answers.Done; wakes = wakes_of h s n }
 
+-- the future f is this now
 abbrev pub with_future : Hall → ℕ → Future → Hall
 with_future h f x = record h { futures = map.insert h.futures f x }
 
+-- the future f is gone
 abbrev pub without_future : Hall → ℕ → Hall
 without_future h f = record h { futures = map.remove h.futures f }
 
+-- the permit p is this now
 abbrev pub with_permit : Hall → ℕ → Permit → Hall
 with_permit h p x = record h { permits = map.insert h.permits p x }
 
+-- the permit p is gone
 abbrev pub without_permit : Hall → ℕ → Hall
 without_permit h p = record h { permits = map.remove h.permits p }
 
@@ -45,6 +49,7 @@ forgetting_exactly r n = record r { free = r.free - min n r.free; queue = with_d
 
 -- ---- trying
 
+-- n free permits are taken
 abbrev pub taking : Semaphore → ℕ → Semaphore
 taking r n = record r { free = r.free - n }
 
@@ -68,6 +73,7 @@ try_and_forget h s n =
 
 -- ---- polling
 
+-- a future of s is made, which was never polled
 abbrev pub acquire_of : Hall → ℕ → ℕ → ℕ → Bool → Bool → Outcome
 acquire_of h i s n plain forgets = quietly (with_future h i (record { semaphore = s; demand = n; plain = plain; forgets = forgets; stage = New })) answers.Made
 
@@ -95,15 +101,18 @@ open_poll h i f w x =
 abbrev pub refusing : Hall → ℕ → Outcome
 refusing h f = quietly (without_future h f) answers.Gone
 
+-- what the first poll of f does: where its semaphore is closed it is refused
 abbrev pub first_poll : Hall → ℕ → ℕ → ℕ → Future → Outcome
 first_poll h i f w x = if is_closed h x.semaphore then refusing h f else open_poll h i f w x
 
+-- what a poll of f does, by its stage
 abbrev pub poll_at : Hall → ℕ → ℕ → ℕ → Future → FutureStage → Outcome
 poll_at h i f w x New = first_poll h i f w x
 poll_at h i f w x (Waiting v) = quietly (with_future h f (record x { stage = Waiting w })) answers.Pending
 poll_at h i f w x Granted = quietly (made_ready h i f x) answers.Ready
 poll_at h i f w x Cut = refusing h f
 
+-- the same, where f is there
 abbrev pub poll_of : Hall → ℕ → ℕ → ℕ → Option Future → Outcome
 poll_of h i f w None = quietly h answers.Done
 poll_of h i f w (Some x) = poll_at h i f w x x.stage
@@ -125,26 +134,31 @@ end_future h f x (Waiting w) = pouring (leaving h f x) x.semaphore (x.demand - l
 end_future h f x Granted = pouring (without_future h f) x.semaphore x.demand
 end_future h f x Cut = quietly (without_future h f) answers.Done
 
+-- the permit p ends: what it is for comes back
 abbrev pub end_permit : Hall → ℕ → Option Permit → Outcome
 end_permit h p None = quietly h answers.Done
 end_permit h p (Some x) = pouring (without_permit h p) x.semaphore x.size
 
+-- the end of a future, or else of a permit
 abbrev pub end_of : Hall → ℕ → Option Future → Outcome
 end_of h x None = end_permit h x (map.get h.permits x)
 end_of h x (Some f) = end_future h x f f.stage
 
 -- ---- permits
 
+-- the permit p is gone, and what it is for is forgotten
 abbrev pub lose_of : Hall → ℕ → Option Permit → Outcome
 lose_of h p None = quietly h answers.Done
 lose_of h p (Some x) =
     quietly (with_semaphore (without_permit h p) x.semaphore (record (semaphore_at h x.semaphore) { forgotten = (semaphore_at h x.semaphore).forgotten + x.size })) (answers.Forgot x.size)
 
+-- the permit q goes into p
 abbrev pub merge_of : Hall → ℕ → ℕ → Option Permit → Option Permit → Hall
 merge_of h p q None y = h
 merge_of h p q (Some x) None = h
 merge_of h p q (Some x) (Some y) = with_permit (without_permit h q) p (record x { size = x.size + y.size })
 
+-- n of the permit p become the permit i, where it is for as many
 abbrev pub split_of : Hall → ℕ → ℕ → ℕ → Option Permit → Outcome
 split_of h i p n None = quietly h answers.Lacking
 split_of h i p n (Some x) =
@@ -152,11 +166,13 @@ split_of h i p n (Some x) =
     then quietly (with_permit (with_permit h p (record x { size = x.size - n })) i (record x { size = n })) answers.Held
     else quietly h answers.Lacking
 
+-- how many a permit is for, if it is there
 abbrev pub size_of : Option Permit → ℕ
 size_of None = 0
 size_of (Some x) = x.size
 
 -- ---- the account of a semaphore
+-- what s has been given, and where it is now
 abbrev pub ledger_of : Hall → ℕ → Ledger
 ledger_of h s = record {
   made = (semaphore_at h s).made;
@@ -174,6 +190,7 @@ released_to h s n = with_semaphore h s (record (semaphore_at h s) { released = (
 
 -- ---- closing
 
+-- s is closed: the futures that wait are cut and woken; where it is closed already nothing changes
 abbrev pub close_of : Hall → ℕ → Outcome
 close_of h s =
     if is_closed h s

@@ -11,6 +11,7 @@ use Rattle.mea_sem_model.specs.Cause.{is_named}
 abbrev pub count : List (Who × ℕ) → ℕ → ℕ
 count q f = sum_by {X = Who × ℕ} (λ e. cond (names e.0 f) 1 0) q
 
+-- 1 for a stage that waits, else 0
 abbrev pub one_if_waiting : FutureStage → ℕ
 one_if_waiting New = 0
 one_if_waiting (Waiting w) = 1
@@ -46,6 +47,7 @@ SuitsClosed closed (Waiting w) = closed ≡ false
 SuitsClosed closed Granted = Unit {0}
 SuitsClosed closed Cut = closed ≡ true
 
+-- what holds of a hall and all that is in it
 pub record IsValid (h : Hall) : Type 0 where
   -- the futures in the queue of s are exactly its waiting futures, each once, and lack at most their demand
   pub once : (s f : ℕ) → count (queue_at h s) f ≡ waits_at s (map.get h.futures f)

@@ -7,6 +7,7 @@ use Rattle.mea_share_core.specs.Share.{taken, released, weighing}
 use Rattle.mea_share_core.specs.Fair.{Fair, IsSettled, share_of, waiters_of, is_queued, Becomes, GivesBack, Polls, Cancels}
 use Rattle.mea_share.specs.Kept.{KeptAdmission, KeptFuture}
 
+-- an admission with n permits, of which nothing is there yet
 abbrev pub new_admission : ℕ → KeptAdmission
 new_admission n = record { fair = record { free = n; next = 0; shares = []; wakes = [] }; named = true; things = 0; plain = 0 }
 
@@ -14,6 +15,7 @@ new_admission n = record { fair = record { free = n; next = 0; shares = []; wake
 abbrev pub begun : KeptAdmission → Bool → KeptAdmission
 begun e plain = record e { things = e.things + 1; plain = e.plain + cond plain 1 0 }
 
+-- and one less
 abbrev pub finished : KeptAdmission → Bool → KeptAdmission
 finished e plain = record e { things = e.things - 1; plain = e.plain - cond plain 1 0 }
 
@@ -28,6 +30,7 @@ pub record Takes (old : KeptAdmission) (k : ℕ) (got : Bool) (new : KeptAdmissi
   pub none : got ≡ false → (old.fair.free ≡ 0) × (new ≡ old)
   pub settled : IsSettled new.fair
 
+-- a key was given a weight
 pub record Weighs (old : KeptAdmission) (k n : ℕ) (new : KeptAdmission) : Type 0 where
   pub rest : new ≡ record old { fair = new.fair }
   pub becomes : Becomes nat_eq old.fair new.fair k (weighing (share_of nat_eq old.fair k) n) old.fair.free old.fair.next
@@ -38,6 +41,7 @@ abbrev pub more_for : Poll (Unit {0}) → Bool → ℕ
 more_for (Ready u) again = 0
 more_for Pending again = cond again 0 1
 
+-- a future was polled, and its waker was counted where it is one more
 pub record PollsEntry (old : KeptAdmission) (x : KeptFuture) (w : ℕ) (poll : Poll (Unit {0})) (new : KeptAdmission) (y : KeptFuture) (before after : Waking ℕ) : Type 0 where
   pub rest : new ≡ record old { fair = new.fair }
   pub polls : Polls nat_eq old.fair x.key x.stage w poll new.fair y.stage
@@ -56,5 +60,6 @@ pub record HandsOn (old : KeptAdmission) (fair : Fair ℕ ℕ) (new : KeptAdmiss
 abbrev pub EndsWait : KeptAdmission → KeptFuture → KeptAdmission → Waking ℕ → Waking ℕ → Type 0
 EndsWait old x new before after = (fair : Fair ℕ ℕ) × Cancels nat_eq old.fair x.key x.stage fair × HandsOn old fair new before after
 
+-- the same of a permit
 abbrev pub Releases : KeptAdmission → ℕ → KeptAdmission → Waking ℕ → Waking ℕ → Type 0
 Releases old k new before after = (fair : Fair ℕ ℕ) × GivesBack nat_eq old.fair fair k (released (share_of nat_eq old.fair k)) × HandsOn old fair new before after

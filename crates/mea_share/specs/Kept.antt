@@ -21,6 +21,7 @@ pub record KeptAdmission : Type 0 where
   pub things : ℕ
   pub plain : ℕ
 
+-- by which a proof tells two of them apart
 abbrev pub kept_admission_code : Coded KeptAdmission
 kept_admission_code =
     code_by (Fair ℕ ℕ × (Bool × (ℕ × ℕ))) (coded× (fair_code coded_ℕ coded_ℕ) (coded× coded_bool (coded× coded_ℕ coded_ℕ)))
@@ -38,17 +39,21 @@ pub record KeptFuture : Type 0 where
 abbrev pub shares_seen : List (ℕ × Share ℕ) → Shares
 shares_seen es = retain_keys (kept es) (λ k. not (is_idle (share_in nat_eq es k)))
 
+-- an admission
 abbrev pub admission_seen : KeptAdmission → Admission
 admission_seen e = record { free = e.fair.free; next = e.fair.next; shares = shares_seen e.fair.shares; named = e.named }
 
+-- the number of a future that waits or was admitted
 abbrev pub number_of : ShareStage → Option ℕ
 number_of New = None
 number_of (Queued n) = Some n
 number_of Done = None
 
+-- a future
 abbrev pub future_seen : KeptFuture → ShareFuture
 future_seen x = record { admission = x.admission; key = x.key; plain = x.plain; number = number_of x.stage }
 
+-- all of them
 abbrev pub hall_seen : Names KeptAdmission → Names KeptFuture → Names SharePermit → ShareHall
 hall_seen es fs ps = record { admissions = seen admission_seen es; futures = seen future_seen fs; permits = ps }
 
@@ -69,9 +74,11 @@ pub record AreKept (e : KeptAdmission) (fs : Names KeptFuture) (ps : Names Share
   pub good : AreGood e fs ps
   pub owned : waiting_in e.fair.shares + held_in e.fair.shares ≤ count (λ (x : KeptFuture). is_queued x.stage) fs + len ps
 
+-- whose a future is
 abbrev pub of_future : KeptFuture → ℕ
 of_future x = x.admission
 
+-- whose a permit is
 abbrev pub of_permit : SharePermit → ℕ
 of_permit p = p.admission
 
@@ -79,6 +86,7 @@ of_permit p = p.admission
 abbrev pub size_of : KeptAdmission → ℕ
 size_of e = e.things + e.fair.next
 
+-- what admissions, futures and permits keep to, where the next event has this number or a greater one
 pub record AreKeptAdmissions (es : Names KeptAdmission) (fs : Names KeptFuture) (ps : Names SharePermit) (next : ℕ) : Type 0 where
   pub hall : HallKept of_future of_permit AreKept size_of es fs ps next
   pub valid : AreValid (hall_seen es fs ps)

@@ -23,9 +23,11 @@ meaning_of (FsDrop s) = Drop s
 meaning_of (FsWeight s k n) = Weigh s k n
 meaning_of (FsWeightof s k) = Weight s k
 
+-- why a line is refused; none where it is not
 abbrev pub cause_of : ShareHall → ShareEvent → Option Stop
 cause_of h e = cause_in h (meaning_of e)
 
+-- what follows where line i is played
 abbrev pub step : ShareHall → ℕ → ShareEvent → Outcome ShareHall
 step h i e = act_in h i (meaning_of e)
 

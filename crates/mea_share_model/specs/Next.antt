@@ -39,6 +39,7 @@ abbrev pub waiters_of : ℕ → Share ℕ → List (ℕ × ℕ) → List Waiter
 waiters_of k s [] = []
 waiters_of k s (e ∷ es) = record { key = k; share = s; number = e.0; waker = e.1 } ∷ waiters_of k s es
 
+-- those that wait of these keys
 abbrev pub waiters_among : List (ℕ × Share ℕ) → List Waiter
 waiters_among [] = []
 waiters_among (e ∷ es) = waiters_of e.0 e.1 (entries e.1.waiting) ++ waiters_among es

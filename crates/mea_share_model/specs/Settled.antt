@@ -4,6 +4,7 @@ use Rattle.std.specs.FinMap.{get}
 use Rattle.mea_share_model.specs.Next.{waiting_in}
 use Rattle.mea_share_model.specs.Admissions.{Admission, ShareHall}
 
+-- nobody waits at this admission, or none of its permits is free
 abbrev pub IsSettled : Admission → Type 0
 IsSettled r = (r.free ≡ 0) ⊎ (waiting_in r.shares ≡ 0)
 

@@ -14,5 +14,6 @@ polled e f = polled_in (meaning_of e) f
 abbrev pub ends : ShareEvent → ℕ → Bool
 ends e f = ends_in (meaning_of e) f
 
+-- the family: what the laws of all families are told of fair admission
 abbrev pub shares_family : Family
 shares_family = record { Hall = ShareHall; Event = ShareEvent; Future = ℕ; empty = empty_hall; cause = cause_of; step = step; polled = polled; ends = ends; name = λ f. f; lives = is_future; placed = placed }

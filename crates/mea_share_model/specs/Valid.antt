@@ -10,6 +10,7 @@ use Rattle.mea_share_model.specs.Admissions.{Admission, ShareFuture, SharePermit
 abbrev pub HasNumber : Share ℕ → ℕ → Type 0
 HasNumber s n = IsWaiting s n ⊎ IsAdmitted s n
 
+-- the same at this admission, if it is there
 abbrev pub HasAt : Option Admission → ℕ → ℕ → Type 0
 HasAt None k n = ⊥
 HasAt (Some r) k n = HasNumber (share_at r.shares k) n
@@ -18,6 +19,7 @@ HasAt (Some r) k n = HasNumber (share_at r.shares k) n
 abbrev pub is_of : ℕ → ℕ → SharePermit → Bool
 is_of o k p = (p.admission == o) && (p.key == k)
 
+-- what all admissions, futures and permits keep to
 pub record AreValid (h : ShareHall) : Type 0 where
   -- the numbers of an admission are below its next, and no two keys have one
   pub below : (o : ℕ) (r : Admission) → get h.admissions o ≡ Some r → (k n : ℕ) → HasNumber (share_at r.shares k) n → n < r.next
