@@ -41,7 +41,7 @@ use Rattle.mea_chan_model.specs.MailboxActions as actions
 use Rattle.mea_chan_model.specs.MailboxActions.{act_in}
 use Rattle.mea_chan_model.specs.Bounded as model
 use Rattle.mea_chan_model.specs.Bounded.{Bounded, Room, registered, is_full}
-use Rattle.mea_chan_model.specs.declared.bounded_action.BoundedAction.TheVariants.{MakeRoom, BeginSend, PollSend, EndSend, DropSender, DropReceiver}
+use Rattle.mea_chan_model.specs.declared.bounded_action.BoundedAction.TheVariants.{Make, BeginSend, PollSend, EndSend, EndSender, EndReceiver}
 use Rattle.mea_chan_model.specs.BoundedActions.{bounded_act, bounded_cause}
 use Rattle.mea_cores_by_name.specs.Linked.{names_in, who_of, IsHome, Linked}
 use Rattle.mea_chan.specs.declared.receiver_entry.ReceiverEntry.{ReceiverEntry}
@@ -104,7 +104,7 @@ module _ {old : Part Bounded} {i : ℕ} (s : BoundedSite old i) where
     of_it = as_mailbox c
 
     -- its sends are none
-    none_of_it : bounded_cause old.hall (DropSender k) ≡ None → len (own of_sender k s.xs) ≡ 0
+    none_of_it : bounded_cause old.hall (EndSender k) ≡ None → len (own of_sender k s.xs) ≡ 0
     none_of_it allowed =
         let few = not_borrowed true y.sends (ends_is s.cs s.ss s.rs s.xs s.next s.view k y sender (s.kept.counted.each k y sender).sends ∙ allowed) in
         omega (arith, few, (s.kept.counted.each k y sender).sends)
@@ -144,7 +144,7 @@ module _ {old : Part Bounded} {i : ℕ} (s : BoundedSite old i) where
     one_sender = elim (c.senders == 1) as (λ b. (c.senders == 1) ≡ b → (if b then record c { senders = 0; waker = None; wakes = c.wakes ++ option_to_list c.waker } else record c { senders = c.senders - 1 }).senders ≡ 0 → c.senders ≡ 1)
         [ true ↦ λ is none. eqb-true c.senders 1 is | false ↦ λ is none. absurd (let some = (some_sender s) k y c sender there in let apart = eqb-false c.senders 1 is in omega (arith, some, apart, none)) ] refl
 
-    sends_gone : bounded_cause old.hall (DropSender k) ≡ None → (core.without_sender c).senders ≡ 0 → len (own of_channel y.channel s.xs) ≡ 0
+    sends_gone : bounded_cause old.hall (EndSender k) ≡ None → (core.without_sender c).senders ≡ 0 → len (own of_channel y.channel s.xs) ≡ 0
     sends_gone allowed none = no_sends_of y.channel (remove s.ss k)
         (ap (λ m. len (own mine y.channel m)) (seen-remove channel_of_sender s.ss k) ∙ ap len (own-gone mine y.channel (seen channel_of_sender s.ss) k)
         ∙ (let less = len-gone (own mine y.channel (seen channel_of_sender s.ss)) k y.channel (own-at mine y.channel (seen channel_of_sender s.ss) k y.channel (seen-at channel_of_sender s.ss k y sender) refl) in
@@ -153,8 +153,8 @@ module _ {old : Part Bounded} {i : ℕ} (s : BoundedSite old i) where
         let z = value_in (get s.ss x.sender) ((sends_sender s) f x here) in
         (z.0, get-removed_other s.ss k x.sender (λ is. own-nothing of_sender k s.xs (none_of_it allowed) f x here is) ∙ z.1, s.kept.alike f x z.0 here z.1 ∙ same))
 
-    pub sender_ended : (c' : NamedChannel) (ss' : Names SenderEntry) (over : Bool) (before after : Waking ℕ) → IsChannel c → bounded_cause old.hall (DropSender k) ≡ None → ss' ≡ remove s.ss k → is_over (as_mailbox c') ≡ over → HandsOn c (core.without_sender c) c' before after
-        → Yields s (DropSender k) answers.Done (if over then remove (insert s.cs y.channel c') y.channel else insert s.cs y.channel c') ss' s.rs s.xs before after
+    pub sender_ended : (c' : NamedChannel) (ss' : Names SenderEntry) (over : Bool) (before after : Waking ℕ) → IsChannel c → bounded_cause old.hall (EndSender k) ≡ None → ss' ≡ remove s.ss k → is_over (as_mailbox c') ≡ over → HandsOn c (core.without_sender c) c' before after
+        → Yields s (EndSender k) answers.Done (if over then remove (insert s.cs y.channel c') y.channel else insert s.cs y.channel c') ss' s.rs s.xs before after
     sender_ended c' ss' over before after is allowed gone is_it hands =
         let now : is_over (as_mailbox (handed_on (core.without_sender c))) ≡ over = ap (λ c. is_over (as_mailbox c)) (sym hands.entry) ∙ is_it in
         let all = mail.sender_ended (letters s) k y.channel of_it (seen-at channel_of_sender s.ss k y sender) ((seen_there s) y.channel c there) (as_mailbox (handed_on (core.without_sender c)))
@@ -174,7 +174,7 @@ module _ {old : Part Bounded} {i : ℕ} (s : BoundedSite old i) where
             counted = halls.goes_out of_sender itself AreCounted (λ y. y.sends) s.ss s.xs empty s.next i s.kept.counted s.later s.fits k y s.xs empty sender Stays Stays (none_of_it allowed) (ap len (own-empty itself k empty (λ q z there. absurd (nothing_at ℕ q z there))) ∙ len-empty nat_cmp ℕ);
             alike = λ f x z here left. s.kept.alike f x z here (removed_there s.ss k x.sender z left);
           },
-          (yields_as s) (DropSender k) (model.sender_ended (before_it s) y.channel (act_in (before_it s).mail i (actions.EndSender k))) answers.Done (tidied y.channel c (handed_on (core.without_sender c)) there over) (remove s.ss k) s.rs s.xs before after
+          (yields_as s) (EndSender k) (model.sender_ended (before_it s) y.channel (act_in (before_it s).mail i (actions.EndSender k))) answers.Done (tidied y.channel c (handed_on (core.without_sender c)) there over) (remove s.ss k) s.rs s.xs before after
               (found_is _ (before_it s) (λ o. model.sender_ended (before_it s) o (act_in (before_it s).mail i (actions.EndSender k))) y.channel (seen-at channel_of_sender s.ss k y sender)) m.replied
               (λ j. record { mail = m.hall j; rooms = (rooms ∙ (λ j. model.tidied_rooms (same j) y.channel (is_channel (m.hall j) y.channel))) j; sends = seen send_seen s.xs })
               (hands.wakers ∙ ap (λ ws. before.wakers ++ ws) (woken_is ∙ m.wakes)) (omega (arith, keeps, hands.counted)),
@@ -183,7 +183,7 @@ module _ {old : Part Bounded} {i : ℕ} (s : BoundedSite old i) where
   -- ---- a receiver ends
   module _ (r : ℕ) (x : ReceiverEntry) (c : NamedChannel) (receiver : get s.rs r ≡ Some x) (there : get s.cs x.channel ≡ Some c) where
     pub receiver_ended : (c' : NamedChannel) (rs' : Names ReceiverEntry) (over : Bool) (before after : Waking ℕ) → IsChannel c → rs' ≡ remove s.rs r → is_over (as_mailbox c') ≡ over → HandsOn c (core.without_receiver c) c' before after
-        → Yields s (DropReceiver r) answers.Done (if over then remove (insert s.cs x.channel c') x.channel else insert s.cs x.channel c') s.ss rs' s.xs before after
+        → Yields s (EndReceiver r) answers.Done (if over then remove (insert s.cs x.channel c') x.channel else insert s.cs x.channel c') s.ss rs' s.xs before after
     receiver_ended c' rs' over before after is gone is_it hands =
         let quiet = (its_quiet s) x.channel c there in
         let own_it = (mail.its_kept (letters s) x.channel (as_mailbox c) ((seen_there s) x.channel c there)) in
@@ -206,7 +206,7 @@ module _ {old : Part Bounded} {i : ℕ} (s : BoundedSite old i) where
         let rooms = tidied_rooms x.channel c (handed_on (core.without_receiver c)) there over model.all_granted (λ j. record { capacity = c.capacity; queue = (names ∙ ap (waiting_after (names_in c.waiting.queue)) (sym sum)) j }) in
         rw (hands.entry, gone) (
           record { mail = m.kept; linked = tidied_links x.channel c (handed_on (core.without_receiver c)) there over links none; counted = (counts_rest s); alike = s.kept.alike },
-          (yields_as s) (DropReceiver r) (model.receiver_ended (before_it s) x.channel (act_in (before_it s).mail i (actions.EndReceiver r true false))) answers.Done (tidied x.channel c (handed_on (core.without_receiver c)) there over) s.ss (remove s.rs r) s.xs before after
+          (yields_as s) (EndReceiver r) (model.receiver_ended (before_it s) x.channel (act_in (before_it s).mail i (actions.EndReceiver r true false))) answers.Done (tidied x.channel c (handed_on (core.without_receiver c)) there over) s.ss (remove s.rs r) s.xs before after
               (found_is _ (before_it s) (λ z. model.receiver_ended (before_it s) z.channel (act_in (before_it s).mail i (actions.EndReceiver r true false))) (receiver_seen x) (seen-at receiver_seen s.rs r x receiver)) m.replied
               (λ j. record { mail = m.hall j; rooms = (rooms ∙ (λ j. model.tidied_rooms (model.at_room (before_it s).rooms x.channel model.all_granted) x.channel (is_channel (m.hall j) x.channel))) j; sends = seen send_seen s.xs })
               (hands.wakers ∙ ap (λ ws. before.wakers ++ ws) (woken_both c.wakes (poured c.waiting (lacks c.waiting.queue)).wakes quiet ∙ woken ∙ ap (woken_by (names_in c.waiting.queue)) (sym sum)
@@ -246,7 +246,7 @@ module _ {old : Part Bounded} {i : ℕ} (s : BoundedSite old i) where
     abbrev first_receiver : ReceiverEntry
     first_receiver = record { channel = i; polls = true }
 
-    pub made_room : (w : Waking ℕ) → Yields s (MakeRoom n) answers.Made (insert s.cs i fresh) (insert s.ss i first_sender) (insert s.rs i first_receiver) s.xs w w
+    pub made_room : (w : Waking ℕ) → Yields s (Make n) answers.Made (insert s.cs i fresh) (insert s.ss i first_sender) (insert s.rs i first_receiver) s.xs w w
     made_room w =
         let all = mail.made (letters s) true in
         let m = (from_rests s) (actions.Make true) answers.Made (insert s.cs i fresh) (insert s.ss i first_sender) (insert s.rs i first_receiver) _ _ (seen-insert as_mailbox s.cs i fresh) (seen-insert channel_of_sender s.ss i first_sender) all.0 all.1 in
@@ -269,7 +269,7 @@ module _ {old : Part Bounded} {i : ℕ} (s : BoundedSite old i) where
             alike = λ f x z here. by_put s.ss i first_sender (λ q p. x.sender ≡ q → p ≡ Some z → z.channel ≡ x.channel)
                 (λ same is. absurd (not_new s f x here same)) (λ q apart same is. s.kept.alike f x z here (ap (get s.ss) same ∙ is)) x.sender refl;
           },
-          (yields_as s) (MakeRoom n) (bounded_act (before_it s) i (MakeRoom n)) answers.Made (insert s.cs i fresh) (insert s.ss i first_sender) (insert s.rs i first_receiver) s.xs w w refl m.replied
+          (yields_as s) (Make n) (bounded_act (before_it s) i (Make n)) answers.Made (insert s.cs i fresh) (insert s.ss i first_sender) (insert s.rs i first_receiver) s.xs w w refl m.replied
               (λ j. record { mail = m.hall j; rooms = rooms j; sends = seen send_seen s.xs }) (sym (append-nil w.wakers) ∙ ap (λ ws. w.wakers ++ ws) m.wakes)
               (omega (arith, nothing, total-insert (λ o c. kept_by c) s.cs i fresh)),
         )
@@ -441,7 +441,7 @@ module _ {old : Part Bounded} {i : ℕ} (s : BoundedSite old i) where
 
     -- it waits on, or goes to the end of the queue
     pended : {R : Type 0} (turn : R) (c' : NamedChannel) (x' : KeptSend) (before after : Waking ℕ) (w v : ℕ) (left : NamedChannel) → x.value ≡ Some v → x'.value ≡ Some v → demand_of x'.acquire ≡ 1 → x' ≡ record x { value = x'.value; acquire = x'.acquire }
-        → is_full (before_it s) x.channel ≡ true → core.StaysPending {R = R} c x.acquire (record { future = f; waker = w }) (Ok turn) left x'.acquire → HandsOn c left c' before after
+        → is_full (before_it s) x.channel ≡ true → core.StaysPending {R = R} c x.acquire (record { name = f; waker = w }) (Ok turn) left x'.acquire → HandsOn c left c' before after
         → Yields s (PollSend f w) answers.Pending (insert s.cs x.channel c') s.ss s.rs (insert s.xs f x') before after
     pended turn c' x' before after w v l value value' ones same full stays hands =
         let it = joins c (own of_channel x.channel s.xs) links_of_it.linked is f x mine_is w turn l x'.acquire stays in
@@ -484,12 +484,12 @@ module _ {old : Part Bounded} {i : ℕ} (s : BoundedSite old i) where
     full_by ended full is_ended is_it = (full_is s) x.channel c there ∙ (λ j. if is_ended j then false else is_it j)
 
     module _ (w : ℕ) (c' : NamedChannel) (x' : KeptSend) (before after : Waking ℕ) where
-      pub ready_polled : (r : Result (Unit {0}) (SendError ℕ)) (answer : Answer) → answer ≡ ready_told r → SendPolled c x (record { future = f; waker = w }) (Ready r) c' x' before after
+      pub ready_polled : (r : Result (Unit {0}) (SendError ℕ)) (answer : Answer) → answer ≡ ready_told r → SendPolled c x (record { name = f; waker = w }) (Ready r) c' x' before after
           → Yields s (PollSend f w) answer (insert s.cs x.channel c') (insert s.ss x.sender one_less) s.rs (remove (insert s.xs f x') f) before after
       ready_polled r answer says polled = let it = value_in x.value (links_of_it.valued f x mine_is) in by_answer it.0 it.1 c.ended (length c.queued == c.capacity) refl refl (rw it.1 at polled.polls)
         where
           by_answer : (v : ℕ) → x.value ≡ Some v → (ended full : Bool) → c.ended ≡ ended → (length c.queued == c.capacity) ≡ full
-              → core.PollsValue c v (if ended then Err (Disconnected v) else if full then Err (Full v) else Ok tt) x.acquire (record { future = f; waker = w }) (Ok (Ready r)) polled.left x'.value x'.acquire
+              → core.PollsValue c v (if ended then Err (Disconnected v) else if full then Err (Full v) else Ok tt) x.acquire (record { name = f; waker = w }) (Ok (Ready r)) polled.left x'.value x'.acquire
               → Yields s (PollSend f w) answer (insert s.cs x.channel c') (insert s.ss x.sender one_less) s.rs (remove (insert s.xs f x') f) before after
           by_answer v value true full is_ended is_it polls =
               let told : r ≡ Err (record { 0 = v }) = (let both = polls.0 in cc) in
@@ -501,12 +501,12 @@ module _ {old : Part Bounded} {i : ℕ} (s : BoundedSite old i) where
               answered c' x' answer before after w v (core.with_message c v) polled.left value (full_by false false is_ended is_it) polls.2 refl refl
               (rw is_ended refl) (rw is_ended (woken_of c.waker c.wakes ((its_quiet s) x.channel c there))) (says ∙ ap ready_told told ∙ rw is_ended refl) polled.settles
 
-      pub pending_polled : SendPolled c x (record { future = f; waker = w }) Pending c' x' before after
+      pub pending_polled : SendPolled c x (record { name = f; waker = w }) Pending c' x' before after
           → Yields s (PollSend f w) answers.Pending (insert s.cs x.channel c') s.ss s.rs (insert s.xs f x') before after
       pending_polled polled = let it = value_in x.value (links_of_it.valued f x mine_is) in by_answer it.0 it.1 c.ended (length c.queued == c.capacity) refl refl (rw it.1 at polled.polls)
         where
           by_answer : (v : ℕ) → x.value ≡ Some v → (ended full : Bool) → c.ended ≡ ended → (length c.queued == c.capacity) ≡ full
-              → core.PollsValue c v (if ended then Err (Disconnected v) else if full then Err (Full v) else Ok tt) x.acquire (record { future = f; waker = w }) (Ok Pending) polled.left x'.value x'.acquire
+              → core.PollsValue c v (if ended then Err (Disconnected v) else if full then Err (Full v) else Ok tt) x.acquire (record { name = f; waker = w }) (Ok Pending) polled.left x'.value x'.acquire
               → Yields s (PollSend f w) answers.Pending (insert s.cs x.channel c') s.ss s.rs (insert s.xs f x') before after
           by_answer v value true full is_ended is_it polls = absurd (let ready = polls.0 in cc)
           by_answer v value false true is_ended is_it polls = pended Pending c' x' before after w v polled.left value polls.1 polled.one polled.same (full_by false true is_ended is_it) polls.2 polled.settles

@@ -39,7 +39,7 @@ use Rattle.mea_chan_model.specs.MailboxActions.{Action, act_in}
 use Rattle.mea_chan_model.specs.Bounded as model
 use Rattle.mea_chan_model.specs.Bounded.{Bounded, Room, BoundedSend, registered, is_full, is_send, no_bounded}
 use Rattle.mea_chan_model.specs.declared.bounded_action.BoundedAction.{BoundedAction}
-use Rattle.mea_chan_model.specs.declared.bounded_action.BoundedAction.TheVariants.{CopySender, TrySend, TryReceive, PollReceive, DropSender}
+use Rattle.mea_chan_model.specs.declared.bounded_action.BoundedAction.TheVariants.{CopySender, TrySend, TryReceive, PollReceive, EndSender}
 use Rattle.mea_chan_model.specs.BoundedActions.{bounded_act, bounded_cause}
 use Rattle.mea_chan_model.specs.Sends.{granted_at, granted_of, queue_in}
 use Rattle.mea_chan_model.specs.Valid.{AreValid}
@@ -130,15 +130,15 @@ module _ {old : Part Bounded} (cs : Names NamedChannel) (ss : Names SenderEntry)
   pub unknown_copy : (k : ℕ) → get ss k ≡ None → Some stops.Unknown ≡ bounded_cause old.hall (CopySender k)
   unknown_copy k none = sym (ap (λ b. if b then (if mailboxes.senders_beside old.hall.mail k == actions.most_senders then Some stops.Overflow else None) else Some stops.Unknown) (sym (sender_is k None none)))
 
-  pub unknown_end : (k : ℕ) → get ss k ≡ None → Some stops.Unknown ≡ bounded_cause old.hall (DropSender k)
+  pub unknown_end : (k : ℕ) → get ss k ≡ None → Some stops.Unknown ≡ bounded_cause old.hall (EndSender k)
   unknown_end k none = sym (ap (λ b. if b then (if nat_lt 0 (model.sends_of old.hall k) then Some stops.Borrowed else None) else Some stops.Unknown) (sym (sender_is k None none)))
 
-  pub ends_is : (k : ℕ) (y : SenderEntry) → get ss k ≡ Some y → y.sends ≡ len (own of_sender k xs) → (if nat_lt 0 y.sends then Some stops.Borrowed else None) ≡ bounded_cause old.hall (DropSender k)
+  pub ends_is : (k : ℕ) (y : SenderEntry) → get ss k ≡ Some y → y.sends ≡ len (own of_sender k xs) → (if nat_lt 0 y.sends then Some stops.Borrowed else None) ≡ bounded_cause old.hall (EndSender k)
   ends_is k y there counts =
       let all : model.sends_of (bounded_seen cs ss rs xs) k ≡ y.sends = ap len (own-seen of_sender (λ (x : BoundedSend). x.sender) send_seen (λ x. refl) k xs) ∙ len-seen send_seen (own of_sender k xs) ∙ sym counts in
       let here : is_sender (bounded_seen cs ss rs xs).mail k ≡ true = ap is_some (seen-at channel_of_sender ss k y there) in
       sym (ap (λ n. if nat_lt 0 n then Some stops.Borrowed else None) all) ∙ sym (ap (λ b. if b then (if nat_lt 0 (model.sends_of (bounded_seen cs ss rs xs) k) then Some stops.Borrowed else None) else Some stops.Unknown) here)
-      ∙ ap (λ (p : Part Bounded). bounded_cause p.hall (DropSender k)) view
+      ∙ ap (λ (p : Part Bounded). bounded_cause p.hall (EndSender k)) view
 
 -- what is kept to is seen
 pub seen_valid : {old : Part Bounded} (cs : Names NamedChannel) (ss : Names SenderEntry) (rs : Names ReceiverEntry) (xs : Names KeptSend) (next : ℕ) → ◌≡◌ {A = Part Bounded} (part_of cs ss rs xs next) old → IsKeptBounded cs ss rs xs next → AreValid old.hall.mail
@@ -178,7 +178,7 @@ keeps_none c xs no_waker ones linked none =
   where
     nobody : (q : List (Waiter NamedWaker × ℕ)) → AskForOne q → AreOf (acquires_of xs) q → length q ≡ 0
     nobody [] ones are = refl
-    nobody ((Acquires n d k, l) ∷ q) ones are = absurd (let one = seen-back (λ (x : KeptSend). x.acquire) xs k.future (Queued d n) are.0 in let some = len-some xs k.future one.0 one.1 in omega (arith, some, none))
+    nobody ((Acquires n d k, l) ∷ q) ones are = absurd (let one = seen-back (λ (x : KeptSend). x.acquire) xs k.name (Queued d n) are.0 in let some = len-some xs k.name one.0 one.1 in omega (arith, some, none))
     nobody ((Owes, l) ∷ q) ones are = absurd ones
 
 -- the channel of a sender is there
@@ -257,7 +257,7 @@ module _ {old : Part Bounded} {i : ℕ} (s : BoundedSite old i) where
   pub copier_there : (k : ℕ) → bounded_cause old.hall (CopySender k) ≡ None → IsSome (get s.ss k)
   copier_there k allowed = sender_there k (known_but (is_sender old.hall.mail k) (mailboxes.senders_beside old.hall.mail k == actions.most_senders) stops.Overflow allowed)
 
-  pub ender_there : (k : ℕ) → bounded_cause old.hall (DropSender k) ≡ None → IsSome (get s.ss k)
+  pub ender_there : (k : ℕ) → bounded_cause old.hall (EndSender k) ≡ None → IsSome (get s.ss k)
   ender_there k allowed = sender_there k (known_but (is_sender old.hall.mail k) (nat_lt 0 (model.sends_of old.hall k)) stops.Borrowed allowed)
 
   -- ---- a channel
@@ -515,7 +515,7 @@ module _ {old : Part Bounded} {i : ℕ} (s : BoundedSite old i) where
             (subst (λ d. HandsOn c d c' before after) (ap (core.after_recv_of c) queue) hands) (mails (v ∷ rest) queue)
 
     -- it is polled
-    pub polled : (w : ℕ) (c' : NamedChannel) (answer : Answer) (before after : Waking ℕ) → IsChannel c → answer ≡ poll_told (core.recv_answer c) → HandsOn c (polled_as c (record { future = r; waker = w }) (core.recv_answer c)) c' before after
+    pub polled : (w : ℕ) (c' : NamedChannel) (answer : Answer) (before after : Waking ℕ) → IsChannel c → answer ≡ poll_told (core.recv_answer c) → HandsOn c (polled_as c (record { name = r; waker = w }) (core.recv_answer c)) c' before after
         → Yields (PollReceive r w) answer (insert s.cs x.channel c') s.ss s.rs s.xs before after
     polled w c' answer before after is says hands = at c.queued refl
       where
@@ -523,7 +523,7 @@ module _ {old : Part Bounded} {i : ℕ} (s : BoundedSite old i) where
         acts = found_receiver (λ o. model.received before_it o (act_in before_it.mail i (actions.Poll r w)))
 
         waker : NamedWaker
-        waker = record { future = r; waker = w }
+        waker = record { name = r; waker = w }
 
         mails : (a : Result ℕ TryRecvError) → core.recv_answer c ≡ a → (d : NamedChannel) → ReceivesBy inbox w a (as_mailbox (handed_on d)) → Mails (actions.Poll r w) answer (insert s.cs x.channel (handed_on d)) s.ss s.rs []
         mails a answered d entry =

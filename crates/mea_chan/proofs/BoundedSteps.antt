@@ -240,7 +240,7 @@ module _ (c : NamedChannel) (xs : Names KeptSend) (linked : Linked c.waiting.que
 
     module _ (w : ℕ) where
       abbrev waker : NamedWaker
-      waker = record { future = f; waker = w }
+      waker = record { name = f; waker = w }
 
       -- it goes there from outside of the queue, which names it under no number
       pushed : (g : FinMap nat_cmp ℕ) (others : Names Acquire) → Linked queue g others → IsUnqueued (get others f) → waits (who (names_in queue)) f ≡ false

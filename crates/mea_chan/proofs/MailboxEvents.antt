@@ -22,7 +22,7 @@ use Rattle.mea_chan_model.specs.Mailboxes as model
 use Rattle.mea_chan_model.specs.Valid.{AreValid}
 use Rattle.mea_chan_model.proofs.Acting.{known_but}
 use Rattle.mea_chan_model.specs.Mailboxes.{Mailboxes, Receiver, is_channel, is_sender, is_receiver, polls_as, senders_in, channel_of, registered, tidied_channels}
-use Rattle.mea_chan_model.specs.MailboxActions.{act_in, cause_in, most_senders, Make, Copy, Send, SendLast, EndSender, Receive, Poll, EndReceiver, Turn, TellClosed, TellOver, TellMessage}
+use Rattle.mea_chan_model.specs.MailboxActions.{act_in, cause_in, most_senders, Make, Copy, Send, SendLast, EndSender, Receive, Poll, EndReceiver, IntoFuture, TellClosed, TellOver, TellMessage}
 use Rattle.mea_chan.specs.declared.receiver_entry.ReceiverEntry.{ReceiverEntry}
 use Rattle.mea_chan.specs.Cores.{Mailbox, is_over, message_sent, sent_answer, last_sent, receiver_ended, has_message, no_message_comes, new_core}
 use Rattle.mea_chan.specs.Entries.{kept, told, poll_told, Settles, Polls}
@@ -431,19 +431,19 @@ module _ {old : Part Mailboxes} {i : ℕ} (s : Site old i) where
     pub apart : r ≡ i → ⊥
     apart same = absurd (let low = (s.kept.seconds.at r x receiver).0 in let later = s.later in omega (arith, low, later, same))
 
-    pub turned : (rs' : Names ReceiverEntry) → rs' ≡ insert (remove s.rs r) i future
-        → (AreKeptMailboxes s.cs s.ss rs' (i + 1)) × PartRests registered old i (act_in old.hall i (Turn r)) answers.Made (part_of s.cs s.ss rs' (i + 1))
-    turned rs' is =
+    pub became_future : (rs' : Names ReceiverEntry) → rs' ≡ insert (remove s.rs r) i future
+        → (AreKeptMailboxes s.cs s.ss rs' (i + 1)) × PartRests registered old i (act_in old.hall i (IntoFuture r)) answers.Made (part_of s.cs s.ss rs' (i + 1))
+    became_future rs' is =
         let m = value_in (get s.cs x.channel) (receivers_channel r x receiver) in
         let own_it = own_receiver r x m.0 receiver m.1 in
         let free : get (remove s.rs r) i ≡ None = get-removed_other s.rs r i apart ∙ no_receiver in
         let moves : Moves of_receiver x.channel i s.rs (insert (remove s.rs r) i future) = Follows r future refl (λ y had. ap of_receiver (inside (sym had ∙ receiver))) (λ y had. absurd (let none = free in cc)) in
         let good : AreKept m.0 (own of_sender x.channel s.ss) (own of_receiver x.channel (insert (remove s.rs r) i future)) =
         rw (own-put of_receiver x.channel (remove s.rs r) i future refl, own-gone of_receiver x.channel s.rs r)
-        (one.turned_kept m.0 _ _ (its_kept x.channel m.0 m.1) r x own_it i future (rw (← own-gone of_receiver x.channel s.rs r) (own-none of_receiver x.channel (remove s.rs r) i free))) in
+        (one.future_kept m.0 _ _ (its_kept x.channel m.0 m.1) r x own_it i future (rw (← own-gone of_receiver x.channel s.rs r) (own-none of_receiver x.channel (remove s.rs r) i free))) in
         rw is (
           subst (λ cs. AreKeptMailboxes cs s.ss (insert (remove s.rs r) i future) (i + 1)) (insert_same s.cs x.channel m.0 m.1) (turns x.channel m.0 m.1 m.0 s.ss (insert (remove s.rs r) i future) Stays moves good),
-          rests_as (λ h. act_in h i (Turn r)) _ answers.Made s.cs s.ss (insert (remove s.rs r) i future) (found_is _ (mailboxes_seen s.cs s.ss s.rs) _ (receiver_seen x) (seen-at receiver_seen s.rs r x receiver)) refl
+          rests_as (λ h. act_in h i (IntoFuture r)) _ answers.Made s.cs s.ss (insert (remove s.rs r) i future) (found_is _ (mailboxes_seen s.cs s.ss s.rs) _ (receiver_seen x) (seen-at receiver_seen s.rs r x receiver)) refl
               refl refl (seen-insert receiver_seen (remove s.rs r) i future ∙ ap (λ q. insert q i (receiver_seen future)) (seen-remove receiver_seen s.rs r)) refl refl,
         )
 

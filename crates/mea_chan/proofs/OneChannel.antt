@@ -124,8 +124,8 @@ module _ (m : Mailbox) where
           at false w kept = (refl, (k.waits w kept).1)
 
       -- it becomes a future
-      pub turned_kept : (i : ℕ) (y : ReceiverEntry) → get (remove rs r) i ≡ None → AreKept m ss (insert (remove rs r) i y)
-      turned_kept i y absent = record {
+      pub future_kept : (i : ℕ) (y : ReceiverEntry) → get (remove rs r) i ≡ None → AreKept m ss (insert (remove rs r) i y)
+      future_kept i y absent = record {
         senders = k.senders;
         receivers = let less = len-gone rs r x there in let some = len-some rs r x there in let more = len-new (remove rs r) i y absent in omega (arith, less, some, more, k.receivers);
         waits = k.waits;

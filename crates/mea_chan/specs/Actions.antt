@@ -11,7 +11,7 @@ use Rattle.mea_chan_model.specs.MailboxActions as mail
 use Rattle.mea_chan_model.specs.MailboxActions.{Action, cause_in, act_in}
 use Rattle.mea_chan_model.specs.Bounded as bounded_ones
 use Rattle.mea_chan_model.specs.declared.bounded_action.BoundedAction.{BoundedAction}
-use Rattle.mea_chan_model.specs.declared.bounded_action.BoundedAction.TheVariants.{MakeRoom, CopySender, BeginSend, PollSend, PollReceive}
+use Rattle.mea_chan_model.specs.declared.bounded_action.BoundedAction.TheVariants as bounded
 use Rattle.mea_chan_model.specs.BoundedActions.{bounded_cause, bounded_act}
 use Rattle.mea_chan_model.specs.Boxes as boxes
 use Rattle.mea_chan_model.specs.declared.box_action.BoxAction.{BoxAction}
@@ -48,7 +48,7 @@ unbounded_action falls (unbounded.Send s v) = mail.Send s v
 abbrev pub oneshot_action : Bool → OneshotAction → Action
 oneshot_action falls (oneshot.Mail a) = mail_action falls a
 oneshot_action falls (oneshot.SendLast s v) = mail.SendLast s v
-oneshot_action falls (oneshot.Turn r) = mail.Turn r
+oneshot_action falls (oneshot.IntoFuture r) = mail.IntoFuture r
 oneshot_action falls (oneshot.TellClosed s) = mail.TellClosed s
 oneshot_action falls (oneshot.TellOver r) = mail.TellOver r
 oneshot_action falls (oneshot.TellMessage r) = mail.TellMessage r
@@ -79,15 +79,15 @@ IsFree (mail.Make polls) = ⊥
 IsFree (mail.Copy s) = ⊥
 IsFree (mail.Send s v) = ⊥
 IsFree (mail.Poll r w) = ⊥
-IsFree (mail.Turn r) = ⊥
+IsFree (mail.IntoFuture r) = ⊥
 IsFree _ = Unit {0}
 
 abbrev pub IsFreeBounded : BoundedAction → Type 0
-IsFreeBounded (MakeRoom n) = ⊥
-IsFreeBounded (CopySender s) = ⊥
-IsFreeBounded (BeginSend s v) = ⊥
-IsFreeBounded (PollSend f w) = ⊥
-IsFreeBounded (PollReceive r w) = ⊥
+IsFreeBounded (bounded.Make n) = ⊥
+IsFreeBounded (bounded.CopySender s) = ⊥
+IsFreeBounded (bounded.BeginSend s v) = ⊥
+IsFreeBounded (bounded.PollSend f w) = ⊥
+IsFreeBounded (bounded.PollReceive r w) = ⊥
 IsFreeBounded _ = Unit {0}
 
 abbrev pub IsFreeContent : Option ℕ → Type 0

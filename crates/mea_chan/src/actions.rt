@@ -33,7 +33,7 @@ pub enum OneshotAction {
     /// Sends the message, and the sender is gone: `s`, message.
     SendLast(u64, u64),
     /// Makes a receiver a future: `r`.
-    Turn(u64),
+    IntoFuture(u64),
     /// Tells whether the receiver has ended: `s`.
     TellClosed(u64),
     /// Tells whether no message will come any more: `r`.

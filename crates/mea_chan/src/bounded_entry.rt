@@ -119,7 +119,7 @@ impl BoundedEntry {
         requires belongs { Belongs self.old.waiting send.old.acquire }
         requires quiet { self.old.wakes ≡ [] }
         requires room { kept_by self.old ≤ ready.old.registered }
-        ensures polls { IfOk result (λ turn. SendPolled self.old send.old (record { future = f; waker = waker }) turn self.new send.new ready.old ready.new) }
+        ensures polls { IfOk result (λ turn. SendPolled self.old send.old (record { name = f; waker = waker }) turn self.new send.new ready.old ready.new) }
         ensures err { OnErr result ((self.new ≡ self.old) × (send.new ≡ send.old) × (ready.new ≡ ready.old)) }
         ensures channel { IsChannel self.old }
     {
@@ -129,7 +129,7 @@ impl BoundedEntry {
         let _registered = ready.registered();
         let Ok(turn) = self
             .core
-            .poll_send(&mut send.wait, NamedWaker { future: f, waker })
+            .poll_send(&mut send.wait, NamedWaker { name: f, waker })
         else {
             ready.unregister(1);
             return Err(NoMemory);
@@ -166,7 +166,7 @@ impl BoundedEntry {
     }
 
     // Polls the receiver at the core, and answers as a try does.
-    fn recv(&mut self, waker: NamedWaker) -> Result<Result<u64, TryRecvError>, NoMemory>
+    fn poll_core(&mut self, waker: NamedWaker) -> Result<Result<u64, TryRecvError>, NoMemory>
         ensures polls { IfOk result (λ answer. (answer ≡ recv_answer self.old) × (self.new ≡ polled_as self.old waker answer)) }
         ensures err { OnErr result (self.new ≡ self.old) }
     {
@@ -188,7 +188,7 @@ impl BoundedEntry {
     ) -> Result<Result<u64, TryRecvError>, NoMemory>
         requires quiet { self.old.wakes ≡ [] }
         requires room { kept_by self.old ≤ ready.old.registered }
-        ensures polls { IfOk result (λ answer. (answer ≡ recv_answer self.old) × HandsOn self.old (polled_as self.old (record { future = r; waker = waker }) answer) self.new ready.old ready.new) }
+        ensures polls { IfOk result (λ answer. (answer ≡ recv_answer self.old) × HandsOn self.old (polled_as self.old (record { name = r; waker = waker }) answer) self.new ready.old ready.new) }
         ensures err { OnErr result ((self.new ≡ self.old) × (ready.new ≡ ready.old)) }
         ensures channel { IsChannel self.old }
     {
@@ -196,7 +196,7 @@ impl BoundedEntry {
         ready.register()?;
         // The sum of those that wait and one more is at most this.
         let _registered = ready.registered();
-        let Ok(received) = self.recv(NamedWaker { future: r, waker }) else {
+        let Ok(received) = self.poll_core(NamedWaker { name: r, waker }) else {
             ready.unregister(1);
             return Err(NoMemory);
         };

@@ -1,7 +1,7 @@
 ghost use Rattle.std.specs.Prelude.{◌≡◌, ◌≢◌, ◌≤◌, ◌<◌, IfSome, is_some, None, Some, [], false};
 ghost use Rattle.mea_chan_model.specs.Mailboxes.{is_channel, is_sender};
 ghost use Rattle.mea_chan_model.specs.Bounded.{no_bounded, is_send, registered};
-ghost use Rattle.mea_chan_model.specs.declared.bounded_action.BoundedAction.TheVariants.{MakeRoom, CopySender, TrySend, BeginSend, PollSend, EndSend, TryReceive, PollReceive, DropSender, DropReceiver};
+ghost use Rattle.mea_chan_model.specs.declared.bounded_action.BoundedAction.TheVariants.{Make, CopySender, TrySend, BeginSend, PollSend, EndSend, TryReceive, PollReceive, EndSender, EndReceiver};
 ghost use Rattle.mea_chan_model.specs.BoundedActions.{bounded_cause};
 ghost use Rattle.mea_chan_model.specs.Valid.{AreValid};
 ghost use Rattle.mea_chan_core.specs.Channel.{no_senders};
@@ -85,7 +85,7 @@ impl BoundedPart {
         ensures { result ≡ bounded_cause self.now.hall action }
     {
         match action {
-            BoundedAction::MakeRoom(n) => zero_if(n == 0),
+            BoundedAction::Make(n) => zero_if(n == 0),
             BoundedAction::CopySender(s) => self.cause_of_copy(s),
             BoundedAction::TrySend(s, _) | BoundedAction::BeginSend(s, _) => unknown_unless(
                 self.is_sender(s),
@@ -95,8 +95,8 @@ impl BoundedPart {
             ),
             BoundedAction::TryReceive(r) | BoundedAction::PollReceive(r, _) =>
                 self.cause_of_receive(r),
-            BoundedAction::DropSender(s) => self.cause_of_end(s),
-            BoundedAction::DropReceiver(r) => self.cause_of_receive(r),
+            BoundedAction::EndSender(s) => self.cause_of_end(s),
+            BoundedAction::EndReceiver(r) => self.cause_of_receive(r),
         }
     }
 
@@ -112,7 +112,7 @@ impl BoundedPart {
         ensures { BoundedActs self.old number action result self.new ready.old ready.new }
     {
         match action {
-            BoundedAction::MakeRoom(n) => self.make(number, n, ready),
+            BoundedAction::Make(n) => self.make(number, n, ready),
             BoundedAction::CopySender(s) => self.copy(number, s, ready),
             BoundedAction::TrySend(s, message) => self.try_send(number, s, message, ready),
             BoundedAction::BeginSend(s, message) => self.begin(number, s, message, ready),
@@ -120,8 +120,8 @@ impl BoundedPart {
             BoundedAction::EndSend(f) => self.end_send(number, f, ready),
             BoundedAction::TryReceive(r) => self.receive(number, r, ready),
             BoundedAction::PollReceive(r, waker) => self.poll_receive(number, r, waker, ready),
-            BoundedAction::DropSender(s) => self.end_sender(number, s, ready),
-            BoundedAction::DropReceiver(r) => self.end_receiver(number, r, ready),
+            BoundedAction::EndSender(s) => self.end_sender(number, s, ready),
+            BoundedAction::EndReceiver(r) => self.end_receiver(number, r, ready),
         }
     }
 
@@ -157,7 +157,7 @@ impl BoundedPart {
 
     // Why the end of a sender is refused: it is unknown, or a send of it lives.
     fn cause_of_end(&self, s: u64) -> Option<Stop>
-        ensures is { result ≡ bounded_cause self.now.hall (DropSender s) }
+        ensures is { result ≡ bounded_cause self.now.hall (EndSender s) }
         ensures tells { result ≢ Some Stop.NoMemory }
     {
         match self.senders.get(s) {
@@ -169,7 +169,7 @@ impl BoundedPart {
     // Makes a channel with room for `capacity` messages, with a sender and a receiver. On an error nothing has changed.
     fn make(&mut self, number: u64, capacity: u64, ready: &mut Ready<u64>) -> Result<Reply, Stop>
         requires next { self.old.next ≤ number }
-        ensures { BoundedActs self.old number (MakeRoom capacity) result self.new ready.old ready.new }
+        ensures { BoundedActs self.old number (Make capacity) result self.new ready.old ready.new }
     {
         if capacity == 0 {
             return Err(Stop::Zero);
@@ -191,7 +191,7 @@ impl BoundedPart {
         requires next { self.old.next ≤ number }
         requires some { 0 < capacity }
         requires new { entry ≡ record { queued = []; capacity = capacity; senders = 1; ended = false; waker = None; waiting = no_senders; wakes = [] } }
-        ensures { BoundedActs self.old number (MakeRoom capacity) result self.new ready.old ready.new }
+        ensures { BoundedActs self.old number (Make capacity) result self.new ready.old ready.new }
     {
         // That the registered wakers have a number that fits is known by a look at it.
         let _registered = ready.registered();
@@ -377,7 +377,7 @@ impl BoundedPart {
     fn end_sender(&mut self, number: u64, s: u64, ready: &mut Ready<u64>) -> Result<Reply, Stop>
         requires next { self.old.next ≤ number }
         requires room { registered self.old.hall ≤ ready.old.registered }
-        ensures { BoundedActs self.old number (DropSender s) result self.new ready.old ready.new }
+        ensures { BoundedActs self.old number (EndSender s) result self.new ready.old ready.new }
     {
         if let Some(stop) = self.cause_of_end(s) {
             return Err(stop);
@@ -395,7 +395,7 @@ impl BoundedPart {
     fn end_receiver(&mut self, number: u64, r: u64, ready: &mut Ready<u64>) -> Result<Reply, Stop>
         requires next { self.old.next ≤ number }
         requires room { registered self.old.hall ≤ ready.old.registered }
-        ensures { BoundedActs self.old number (DropReceiver r) result self.new ready.old ready.new }
+        ensures { BoundedActs self.old number (EndReceiver r) result self.new ready.old ready.new }
     {
         let Some(receiver) = receiver_in(&self.receivers, r, true) else {
             return Err(Stop::Unknown);

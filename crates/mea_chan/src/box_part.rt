@@ -5,7 +5,7 @@ ghost use Rattle.mea_chan_model.specs.declared.box_action.BoxAction.TheVariants.
 ghost use Rattle.mea_chan_model.specs.Boxes.{is_box, box_cause};
 ghost use Rattle.mea_chan.specs.Actions.{FitsBox, BoxActs};
 
-use crate::box_core::BoxedCore;
+use crate::boxed_core::BoxedCore;
 use mea_base::NoMemory;
 use mea_by_name::ByName;
 use mea_chan_model::BoxAction;

@@ -77,7 +77,7 @@ impl<C: MailboxCore> ChannelEntry<C> {
     {
         ready.register()?;
         let before = self.core.kept_wakers();
-        let Ok(received) = self.core.recv(waker) else {
+        let Ok(received) = self.core.poll_recv(waker) else {
             ready.unregister(1);
             return Err(NoMemory);
         };

@@ -6,8 +6,8 @@
 mod actions;
 mod bounded_entry;
 mod bounded_part;
-mod box_core;
 mod box_part;
+mod boxed_core;
 mod channel_entry;
 mod family;
 mod kinds;
@@ -18,7 +18,7 @@ mod oneshots;
 mod receiver_entry;
 mod send_entry;
 mod sender_entry;
-mod unbounded;
+mod unbounded_channels;
 
 pub use family::{ChanFamily, ChanHall, ChanModel};
 pub use mea_events::ChanEvent;

@@ -6,8 +6,8 @@ use mea_base::NoMemory;
 use mea_chan_core::TryRecvError;
 use std::alloc::Global;
 
-/// The core of a channel for one receiver as a hall uses it. Each kind is seen as a channel that never is full. Only `recv`
-/// takes memory.
+/// The core of a channel for one receiver as a hall uses it. Each kind is seen as a channel that never is full. Only
+/// `poll_recv` takes memory.
 pub trait MailboxCore: Drop {
     ghost use Rattle.std.specs.Prelude.{Bool};
     ghost use Rattle.mea_chan.specs.Cores.{Mailbox};
@@ -40,7 +40,7 @@ pub trait MailboxCore: Drop {
 
     /// Takes the first message, or keeps the waker where one may come; then it tells that there is none yet. On an error
     /// nothing has changed.
-    fn recv(&mut self, waker: u64) -> Result<Result<u64, TryRecvError>, NoMemory>
+    fn poll_recv(&mut self, waker: u64) -> Result<Result<u64, TryRecvError>, NoMemory>
         ensures received { IfOk result (λ answer. Receives (mailbox_of self.old) waker answer (mailbox_of self.new)) }
         ensures err { OnErr result (mailbox_of self.new ≡ mailbox_of self.old) };
 

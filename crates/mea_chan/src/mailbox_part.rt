@@ -1,6 +1,6 @@
 ghost use Rattle.std.specs.Prelude.{◌≡◌, ◌≢◌, ◌≤◌, IfSome, is_some, Some, if◌then◌else◌};
 ghost use Rattle.mea_chan_model.specs.Mailboxes.{no_mailboxes, is_channel, is_receiver, registered};
-ghost use Rattle.mea_chan_model.specs.MailboxActions.{cause_in, Make, Copy, Send, SendLast, EndSender, Receive, Poll, EndReceiver, Turn, TellClosed, TellOver, TellMessage};
+ghost use Rattle.mea_chan_model.specs.MailboxActions.{cause_in, Make, Copy, Send, SendLast, EndSender, Receive, Poll, EndReceiver, IntoFuture, TellClosed, TellOver, TellMessage};
 ghost use Rattle.mea_chan_model.specs.Valid.{AreValid};
 ghost use Rattle.mea_chan.specs.Actions.{mail_action, unbounded_action, oneshot_action, MailActs, MailActsQuietly};
 ghost use Rattle.mea_chan.specs.Lends.{StandsFor};
@@ -308,7 +308,7 @@ impl<C: SingleCore> MailboxPart<C> {
             OneshotAction::SendLast(s, _) | OneshotAction::TellClosed(s) => unknown_unless(
                 self.senders.has(s),
             ),
-            OneshotAction::Turn(r) => unknown_unless(self.is_receiver(r, false)),
+            OneshotAction::IntoFuture(r) => unknown_unless(self.is_receiver(r, false)),
             OneshotAction::TellOver(r) | OneshotAction::TellMessage(r) => unknown_unless(
                 self.is_receiver(r, false),
             ),
@@ -329,7 +329,7 @@ impl<C: SingleCore> MailboxPart<C> {
         match action {
             OneshotAction::Mail(action) => self.act(number, action, ready),
             OneshotAction::SendLast(s, message) => self.send_last(number, s, message, ready),
-            OneshotAction::Turn(r) => self.turn(number, r),
+            OneshotAction::IntoFuture(r) => self.into_future(number, r),
             OneshotAction::TellClosed(s) => self.tell_closed(number, s),
             OneshotAction::TellOver(r) => self.tell_over(number, r),
             OneshotAction::TellMessage(r) => self.tell_message(number, r),
@@ -360,9 +360,9 @@ impl<C: SingleCore> MailboxPart<C> {
     }
 
     // Makes a receiver a future. On an error nothing has changed.
-    fn turn(&mut self, number: u64, r: u64) -> Result<Reply, Stop>
+    fn into_future(&mut self, number: u64, r: u64) -> Result<Reply, Stop>
         requires next { self.old.next ≤ number }
-        ensures { MailActsQuietly self.old number (Turn r) result self.new }
+        ensures { MailActsQuietly self.old number (IntoFuture r) result self.new }
     {
         let Some(receiver) = receiver_in(&self.receivers, r, false) else {
             return Err(Stop::Unknown);

@@ -29,7 +29,7 @@ pub fn meaning_of(event: &ChanEvent) -> Meaning
     ensures fits { FitsMeaning result }
 {
     match *event {
-        ChanEvent::MbNew(n) => Meaning::Bounded(BoundedAction::MakeRoom(n)),
+        ChanEvent::MbNew(n) => Meaning::Bounded(BoundedAction::Make(n)),
         ChanEvent::MbCopy(s) => Meaning::Bounded(BoundedAction::CopySender(s)),
         ChanEvent::MbTry(s, v) => Meaning::Bounded(BoundedAction::TrySend(s, v)),
         ChanEvent::MbSend(s, v) => Meaning::Bounded(BoundedAction::BeginSend(s, v)),
@@ -37,10 +37,10 @@ pub fn meaning_of(event: &ChanEvent) -> Meaning
         ChanEvent::MbEnd(f) => Meaning::Bounded(BoundedAction::EndSend(f)),
         ChanEvent::MbTryr(r) => Meaning::Bounded(BoundedAction::TryReceive(r)),
         ChanEvent::MbRecv(r, waker) => Meaning::Bounded(BoundedAction::PollReceive(r, waker)),
-        ChanEvent::MbEnds(s) => Meaning::Bounded(BoundedAction::DropSender(s)),
-        ChanEvent::MbEndr(r) => Meaning::Bounded(BoundedAction::DropReceiver(r)),
-        ChanEvent::BcNew(n) => Meaning::Broadcasts(BroadcastAction::Open(n)),
-        ChanEvent::BcCopys(s) => Meaning::Broadcasts(BroadcastAction::AddSender(s)),
+        ChanEvent::MbEnds(s) => Meaning::Bounded(BoundedAction::EndSender(s)),
+        ChanEvent::MbEndr(r) => Meaning::Bounded(BoundedAction::EndReceiver(r)),
+        ChanEvent::BcNew(n) => Meaning::Broadcasts(BroadcastAction::Make(n)),
+        ChanEvent::BcCopys(s) => Meaning::Broadcasts(BroadcastAction::CopySender(s)),
         ChanEvent::BcSend(s, v) => Meaning::Broadcasts(BroadcastAction::SendAll(s, v)),
         ChanEvent::BcSub(s) => Meaning::Broadcasts(BroadcastAction::Subscribe(s)),
         ChanEvent::BcResub(r) => Meaning::Broadcasts(BroadcastAction::Resubscribe(r)),
@@ -65,7 +65,7 @@ pub fn meaning_of(event: &ChanEvent) -> Meaning
         ChanEvent::OsClosedr(r) => Meaning::Oneshots(OneshotAction::TellOver(r)),
         ChanEvent::OsHas(r) => Meaning::Oneshots(OneshotAction::TellMessage(r)),
         ChanEvent::OsTry(r) => on_oneshots(MailAction::Receive(r, false)),
-        ChanEvent::OsInto(r) => Meaning::Oneshots(OneshotAction::Turn(r)),
+        ChanEvent::OsInto(r) => Meaning::Oneshots(OneshotAction::IntoFuture(r)),
         ChanEvent::OsPoll(f, waker) => on_oneshots(MailAction::Poll(f, waker)),
         ChanEvent::OsEndr(r) => on_oneshots(MailAction::EndReceiver(r, false)),
         ChanEvent::OsEnd(f) => on_oneshots(MailAction::EndReceiver(f, true)),

@@ -31,8 +31,8 @@ impl MailboxCore for OneshotCore<u64, u64> {
         OneshotCore::try_recv(self)
     }
 
-    fn recv(&mut self, waker: u64) -> Result<Result<u64, TryRecvError>, NoMemory> {
-        match self.poll_recv(waker) {
+    fn poll_recv(&mut self, waker: u64) -> Result<Result<u64, TryRecvError>, NoMemory> {
+        match OneshotCore::poll_recv(self, waker) {
             Poll::Ready(Ok(message)) => Ok(Ok(message)),
             Poll::Ready(Err(RecvError::Disconnected)) => Ok(Err(TryRecvError::Disconnected)),
             Poll::Pending => Ok(Err(TryRecvError::Empty)),

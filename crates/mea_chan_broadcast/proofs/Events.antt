@@ -31,7 +31,7 @@ use Rattle.mea_broadcast_core.specs.Receives.{Found}
 use Rattle.mea_chan_model.specs.Broadcasts as model
 use Rattle.mea_chan_model.specs.Broadcasts.{Broadcasts, Broadcast, Listener, of_hearing, is_broadcast, is_sender, is_hearing, is_over, tidied, stands, registered, ring_size, new_broadcast, senders_in, tail_in, channel_of}
 use Rattle.mea_chan_model.specs.declared.broadcast_action.BroadcastAction.{BroadcastAction}
-use Rattle.mea_chan_model.specs.declared.broadcast_action.BroadcastAction.TheVariants.{Open, AddSender, SendAll, EndSender, Subscribe, Resubscribe, CopyReceiver, Hear, EndReceiver, BeginHear, PollHear, EndHear}
+use Rattle.mea_chan_model.specs.declared.broadcast_action.BroadcastAction.TheVariants.{Make, CopySender, SendAll, EndSender, Subscribe, Resubscribe, CopyReceiver, Hear, EndReceiver, BeginHear, PollHear, EndHear}
 use Rattle.mea_chan_model.specs.BroadcastActions.{most_senders, last_tail, most_size, unusable, broadcast_cause, broadcast_act}
 use Rattle.mea_chan_model.specs.BroadcastValid.{AreKept, AreHeard, Hears, of_listener}
 use Rattle.mea_chan_model.proofs.Acting.{known_but}
@@ -49,8 +49,8 @@ use Rattle.mea_chan_broadcast.proofs.Seeing.{seen_less, woken_sent, woken_less, 
 use Rattle.mea_chan_broadcast.proofs.Linking.{links_rest, links_turned, links_gone, fresh_linked}
 
 -- a ring of this size may be made
-pub opens_allowed : (h : Broadcasts) (m : ℕ) → 0 < m → m ≤ most_size → broadcast_cause h (Open m) ≡ None
-opens_allowed h m some few = at (m == 0) (nat_lt most_size m) refl refl
+pub makes_allowed : (h : Broadcasts) (m : ℕ) → 0 < m → m ≤ most_size → broadcast_cause h (Make m) ≡ None
+makes_allowed h m some few = at (m == 0) (nat_lt most_size m) refl refl
   where
     at : (a b : Bool) → (m == 0) ≡ a → nat_lt most_size m ≡ b → (if a then Some stops.Zero else if b then Some stops.Overflow else None) ≡ None
     at true b zero _ = absurd (let none = eqb-true m 0 zero in omega (arith, none, some))
@@ -166,7 +166,7 @@ module _ {old : Part Broadcasts} {i : ℕ} (s : Site old i) where
   pub futures_channel : (f : ℕ) (y : RecvEntry) → get s.ys f ≡ Some y → IsSome (get s.es y.channel)
   futures_channel f y there = seen-some_back broadcast_seen s.es y.channel (s.kept.valid.futures.at f (hearing_seen y) (seen-at hearing_seen s.ys f y there)).1
 
-  pub copier_there : (k : ℕ) → broadcast_cause old.hall (AddSender k) ≡ None → IsSome (get s.ss k)
+  pub copier_there : (k : ℕ) → broadcast_cause old.hall (CopySender k) ≡ None → IsSome (get s.ss k)
   copier_there k allowed = sender_there k (known_but (is_sender old.hall k) (senders_in (channel_of old.hall (get old.hall.senders k)) == most_senders) stops.Overflow allowed)
 
   usable_there : (r : ℕ) → unusable (get (seen listener_seen s.xs) r) ≡ None → IsSome (get s.xs r)
@@ -278,12 +278,12 @@ module _ {old : Part Broadcasts} {i : ℕ} (s : Site old i) where
     opened_seen : broadcast_seen opened ≡ new_broadcast (ring_size m)
     opened_seen j = record { kept = new.kept j; tail = new.tail j; size = sym (ring_is m core.size some few power) j; senders = new.senders j; receivers = 1; waiting = set_names (new.waiting j) }
 
-    pub made : i < 2 ^ 64 → (AreKeptBroadcasts (insert s.es i opened) (insert s.ss i i) (insert s.xs i x) s.ys (i + 1)) × PartRests registered old i (broadcast_act old.hall i (Open m)) answers.Made (part_of (insert s.es i opened) (insert s.ss i i) (insert s.xs i x) s.ys (i + 1))
+    pub made : i < 2 ^ 64 → (AreKeptBroadcasts (insert s.es i opened) (insert s.ss i i) (insert s.xs i x) s.ys (i + 1)) × PartRests registered old i (broadcast_act old.hall i (Make m)) answers.Made (part_of (insert s.es i opened) (insert s.ss i i) (insert s.xs i x) s.ys (i + 1))
     made fits =
         let nobody : own of_channel i s.ys ≡ empty = own-empty of_channel i s.ys (λ f y there mine. absurd (let some = futures_channel f y there in let none = ap is_some (ap (get s.es) (sym mine) ∙ no_channel) in let no = sym none ∙ some in cc)) in
         let nothing : weight (λ o (e : BroadcastEntry). kept_by e.core) i (get s.es i) ≡ 0 = ap (weight (λ o (e : BroadcastEntry). kept_by e.core) i) no_channel in
         let silent : kept_by core ≡ 0 = ap (λ s. length s.wakers) new.waiting in
-        rests_as fits (Open m) (opens_allowed h m some few) (model.make h i (ring_size m)) refl answers.Made refl (insert s.es i opened) (insert s.ss i i) (insert s.xs i x) s.ys
+        rests_as fits (Make m) (makes_allowed h m some few) (model.make h i (ring_size m)) refl answers.Made refl (insert s.es i opened) (insert s.ss i i) (insert s.xs i x) s.ys
         (seen-insert broadcast_seen s.es i opened ∙ ap (insert (seen broadcast_seen s.es) i) opened_seen) refl
         (seen-insert listener_seen s.xs i x ∙ ap (insert (seen listener_seen s.xs) i) (λ j. record { channel = mine j; cursor = (cursor ∙ new.tail) j; user = free j })) refl
         (links_turned s.es s.ys s.next i s.kept.links s.later i s.ys Stays opened (subst (λ w. SetLinked w (slots_of i s.ys) (i + 1)) (sym new.waiting) (fresh_linked i (i + 1) s.ys nobody)) new.wakes)
@@ -313,20 +313,20 @@ module _ {old : Part Broadcasts} {i : ℕ} (s : Site old i) where
     pub channel_seen : get old.hall.channels o ≡ Some (broadcast_seen e)
     channel_seen = ap (λ (p : Part Broadcasts). get p.hall.channels o) (sym s.view) ∙ seen_there o e there
 
-    pub crowded_is : (if e.core.senders == most_senders then Some stops.Overflow else None) ≡ broadcast_cause old.hall (AddSender k)
+    pub crowded_is : (if e.core.senders == most_senders then Some stops.Overflow else None) ≡ broadcast_cause old.hall (CopySender k)
     crowded_is = sym (ap (λ n. if n == most_senders then Some stops.Overflow else None) (ap senders_in its_channel))
         ∙ sym (ap (λ b. if b then (if senders_in (channel_of h (get s.ss k)) == most_senders then Some stops.Overflow else None) else Some stops.Unknown) (ap is_some sender))
-        ∙ ap (λ (p : Part Broadcasts). broadcast_cause p.hall (AddSender k)) s.view
+        ∙ ap (λ (p : Part Broadcasts). broadcast_cause p.hall (CopySender k)) s.view
 
     pub full_is : (v : ℕ) → (if e.core.tail == last_tail then Some stops.Overflow else None) ≡ broadcast_cause old.hall (SendAll k v)
     full_is v = sym (ap (λ n. if n == last_tail then Some stops.Overflow else None) (ap tail_in its_channel))
         ∙ sym (ap (λ b. if b then (if tail_in (channel_of h (get s.ss k)) == last_tail then Some stops.Overflow else None) else Some stops.Unknown) (ap is_some sender))
         ∙ ap (λ (p : Part Broadcasts). broadcast_cause p.hall (SendAll k v)) s.view
 
-    pub not_crowded : broadcast_cause old.hall (AddSender k) ≡ None → e.core.senders ≡ most_senders → ⊥
+    pub not_crowded : broadcast_cause old.hall (CopySender k) ≡ None → e.core.senders ≡ most_senders → ⊥
     not_crowded allowed many = absurd (let no = sym (ap (λ b. if b then Some stops.Overflow else None) (eq-eqb e.core.senders most_senders many)) ∙ crowded_is ∙ allowed in cc)
 
-    pub was_added : (r : Result (Unit {0}) Overflow) (d : NamedBroadcast) → IsErr r ↔ (e.core.senders ≡ most_senders) → OnOk r (d ≡ record e.core { senders = e.core.senders + 1 }) → broadcast_cause old.hall (AddSender k) ≡ None → d ≡ record e.core { senders = e.core.senders + 1 }
+    pub was_added : (r : Result (Unit {0}) Overflow) (d : NamedBroadcast) → IsErr r ↔ (e.core.senders ≡ most_senders) → OnOk r (d ≡ record e.core { senders = e.core.senders + 1 }) → broadcast_cause old.hall (CopySender k) ≡ None → d ≡ record e.core { senders = e.core.senders + 1 }
     was_added (Ok u) d when added allowed = added
     was_added (Err x) d when added allowed = absurd (not_crowded allowed (when.0 refl))
 
@@ -337,12 +337,12 @@ module _ {old : Part Broadcasts} {i : ℕ} (s : Site old i) where
     pub may_send : (v : ℕ) → (e.core.tail ≡ last_tail → ⊥) → broadcast_cause old.hall (SendAll k v) ≡ None
     may_send v more = sym (full_is v) ∙ (elim (e.core.tail == last_tail) as (λ b. (e.core.tail == last_tail) ≡ b → (if b then Some stops.Overflow else None) ≡ None) [ true ↦ λ is. absurd (more (eqb-true e.core.tail last_tail is)) | false ↦ λ is. refl ] refl)
 
-    pub copied : i < 2 ^ 64 → (core' : NamedBroadcast) → core' ≡ record e.core { senders = e.core.senders + 1 } → (ss' : Names ℕ) → ss' ≡ insert s.ss i o → broadcast_cause old.hall (AddSender k) ≡ None
-        → (AreKeptBroadcasts (insert s.es o (record e { core = core' })) ss' s.xs s.ys (i + 1)) × PartRests registered old i (broadcast_act old.hall i (AddSender k)) answers.Made (part_of (insert s.es o (record e { core = core' })) ss' s.xs s.ys (i + 1))
+    pub copied : i < 2 ^ 64 → (core' : NamedBroadcast) → core' ≡ record e.core { senders = e.core.senders + 1 } → (ss' : Names ℕ) → ss' ≡ insert s.ss i o → broadcast_cause old.hall (CopySender k) ≡ None
+        → (AreKeptBroadcasts (insert s.es o (record e { core = core' })) ss' s.xs s.ys (i + 1)) × PartRests registered old i (broadcast_act old.hall i (CopySender k)) answers.Made (part_of (insert s.es o (record e { core = core' })) ss' s.xs s.ys (i + 1))
     copied fits core' more ss' made allowed =
         let d : NamedBroadcast = record e.core { senders = e.core.senders + 1 } in
         let now = kept_now o e there (record e { core = record e.core { senders = e.core.senders + 1 } }) in
-        rw (more, made) (rests_as fits (AddSender k) (allowed_here (AddSender k) allowed) (model.add_sender h i o (broadcast_seen e)) (found_sender (model.add_sender h i)) answers.Made refl
+        rw (more, made) (rests_as fits (CopySender k) (allowed_here (CopySender k) allowed) (model.copy_sender h i o (broadcast_seen e)) (found_sender (model.copy_sender h i)) answers.Made refl
         (insert s.es o (record e { core = record e.core { senders = e.core.senders + 1 } })) (insert s.ss i o) s.xs s.ys
         (seen-insert broadcast_seen s.es o (record e { core = record e.core { senders = e.core.senders + 1 } })) refl refl refl
         (links_turned s.es s.ys s.next i s.kept.links s.later o s.ys Stays (record e { core = record e.core { senders = e.core.senders + 1 } }) (linked_still o e there) (its_quiet o e there)) refl (omega (arith, now)))
@@ -545,7 +545,7 @@ module _ {old : Part Broadcasts} {i : ℕ} (s : Site old i) where
               (woken ∙ sym (append-nil before.wakers)) (omega (arith, counted, size)))
 
           -- it waits
-          waits : cores.found e.core x.cursor.position ≡ cores.AtTail → (e.core.senders == 0) ≡ false → answer ≡ answers.Pending → core' ≡ record e.core { waiting = with_waker e.core.waiting y.wait (record { future = f; waker = w }) } → y'.wait ≡ slot_after e.core.waiting y.wait
+          waits : cores.found e.core x.cursor.position ≡ cores.AtTail → (e.core.senders == 0) ≡ false → answer ≡ answers.Pending → core' ≡ record e.core { waiting = with_waker e.core.waiting y.wait (record { name = f; waker = w }) } → y'.wait ≡ slot_after e.core.waiting y.wait
               → listener_seen x' ≡ listener_seen x → after.wakers ≡ before.wakers → after.registered + kept_by e.core ≡ before.registered + kept_by core' → Polled false
           waits same some told core_now slot_now seen_now woken counted =
               let linked = s.kept.links.linked y.channel e there in
@@ -567,7 +567,7 @@ module _ {old : Part Broadcasts} {i : ℕ} (s : Site old i) where
               before after (woken ∙ sym (append-nil before.wakers)) (let now = kept_now y.channel e there (record e { core = core' }) in omega (arith, counted, now))
 
           pub polled : (over : Bool) → over ≡ (if is_pending answer then false else true) → listener_seen x' ≡ record { channel = x.channel; cursor = x'.cursor.position; user = if over then None else Some f }
-              → IsPolled e.core (cores.found e.core x.cursor.position) x.cursor.position y.wait (record { future = f; waker = w }) answer core' x'.cursor.position y'.wait before after → Polled over
+              → IsPolled e.core (cores.found e.core x.cursor.position) x.cursor.position y.wait (record { name = f; waker = w }) answer core' x'.cursor.position y'.wait before after → Polled over
           polled over is seen_now it = at (cores.found e.core x.cursor.position) refl it.polls
             where
               -- the cursor is there, and the future is gone
@@ -577,13 +577,13 @@ module _ {old : Part Broadcasts} {i : ℕ} (s : Site old i) where
                   let gone : over ≡ true = is ∙ ap (λ b. if b then false else true) not_pending in
                   subst Polled (sym gone) (answered g cursor same out core_same (seen_now ∙ (λ j. record { channel = x.channel; cursor = at_cursor j; user = if gone j then None else Some f })) it.wakers it.counted)
 
-              at_tail : (b : Bool) → (e.core.senders == 0) ≡ b → cores.found e.core x.cursor.position ≡ cores.AtTail → PollsAtTail b e.core x.cursor.position y.wait (record { future = f; waker = w }) answer core' x'.cursor.position y'.wait → Polled over
+              at_tail : (b : Bool) → (e.core.senders == 0) ≡ b → cores.found e.core x.cursor.position ≡ cores.AtTail → PollsAtTail b e.core x.cursor.position y.wait (record { name = f; waker = w }) answer core' x'.cursor.position y'.wait → Polled over
               at_tail true none same did = by_answer cores.AtTail x.cursor.position same (ap is_pending did.0) (if_true (e.core.senders == 0) _ _ none ∙ ap (quietly (model.freed h f y.receiver (listener_seen x) x.cursor.position)) (sym did.0)) did.1 did.2
               at_tail false some same did =
                   let stays : over ≡ false = is ∙ ap (λ b. if b then false else true) (ap is_pending did.0) in
                   subst Polled (sym stays) (waits same some did.0 did.1 did.3 (seen_now ∙ (λ j. record { channel = x.channel; cursor = did.2 j; user = if stays j then None else Some f }) ∙ (λ j. record { channel = x.channel; cursor = x.cursor.position; user = sym its_user j })) it.wakers it.counted)
 
-              at : (g : Found ℕ) → cores.found e.core x.cursor.position ≡ g → Polls e.core g x.cursor.position y.wait (record { future = f; waker = w }) answer core' x'.cursor.position y'.wait → Polled over
+              at : (g : Found ℕ) → cores.found e.core x.cursor.position ≡ g → Polls e.core g x.cursor.position y.wait (record { name = f; waker = w }) answer core' x'.cursor.position y'.wait → Polled over
               at (cores.Behind m) same did = by_answer (cores.Behind m) (model.oldest (broadcast_seen e)) same (ap is_pending did.0) (ap (quietly (model.freed h f y.receiver (listener_seen x) (model.oldest (broadcast_seen e)))) (sym did.0)) did.1 did.2
               at (cores.Holds v) same did = by_answer (cores.Holds v) (x.cursor.position + 1) same (ap is_pending did.0) (ap (quietly (model.freed h f y.receiver (listener_seen x) (x.cursor.position + 1))) (sym did.0)) did.1 did.2
               at cores.AtTail same did = at_tail (e.core.senders == 0) refl same did

@@ -85,7 +85,7 @@ impl BroadcastEntry {
     }
 
     // Polls a receive at the core, and answers as a script does.
-    fn recv(
+    fn poll_core(
         &mut self,
         cursor: &mut Cursor,
         wait: &mut RecvWait,
@@ -127,7 +127,7 @@ impl BroadcastEntry {
         ready.register()?;
         // The sum of those that wait and one more is at most this.
         let _registered = ready.registered();
-        let Ok(answer) = self.recv(cursor, wait, waker) else {
+        let Ok(answer) = self.poll_core(cursor, wait, waker) else {
             ready.unregister(1);
             return Err(NoMemory);
         };

@@ -5,7 +5,7 @@ ghost use Rattle.mea_family.specs.Play.{PartRests};
 ghost use Rattle.std.specs.Int.{IsNextPowerOfTwo};
 ghost use Rattle.mea_broadcast_core.specs.Broadcast.{IsFresh};
 ghost use Rattle.mea_chan_model.specs.Broadcasts.{Broadcast, join, no_broadcasts, is_broadcast, is_sender, is_hearing, registered};
-ghost use Rattle.mea_chan_model.specs.declared.broadcast_action.BroadcastAction.TheVariants.{Open, AddSender, SendAll, EndSender, Subscribe, Resubscribe, CopyReceiver, Hear, EndReceiver, BeginHear, PollHear, EndHear};
+ghost use Rattle.mea_chan_model.specs.declared.broadcast_action.BroadcastAction.TheVariants.{Make, CopySender, SendAll, EndSender, Subscribe, Resubscribe, CopyReceiver, Hear, EndReceiver, BeginHear, PollHear, EndHear};
 ghost use Rattle.mea_chan_model.specs.BroadcastActions.{broadcast_cause, broadcast_act, unusable};
 ghost use Rattle.mea_chan_broadcast.specs.Actions.{BroadcastActs, BroadcastActsQuietly};
 ghost use Rattle.mea_chan_broadcast.specs.BroadcastLends.{StandsForBroadcast};
@@ -79,8 +79,8 @@ impl BroadcastPart {
         ensures { result ≡ broadcast_cause self.now.hall action }
     {
         match action {
-            BroadcastAction::Open(n) => cause_of_size(n),
-            BroadcastAction::AddSender(s) => self.cause_of_copy(s),
+            BroadcastAction::Make(n) => cause_of_size(n),
+            BroadcastAction::CopySender(s) => self.cause_of_copy(s),
             BroadcastAction::SendAll(s, _) => self.cause_of_send(s),
             BroadcastAction::EndSender(s) | BroadcastAction::Subscribe(s) => unknown_unless(
                 self.senders.has(s),
@@ -108,8 +108,8 @@ impl BroadcastPart {
         ensures { BroadcastActs self.old number action result self.new ready.old ready.new }
     {
         match action {
-            BroadcastAction::Open(n) => self.make(number, n),
-            BroadcastAction::AddSender(s) => self.copy_sender(number, s),
+            BroadcastAction::Make(n) => self.make(number, n),
+            BroadcastAction::CopySender(s) => self.copy_sender(number, s),
             BroadcastAction::SendAll(s, message) => self.send(number, s, message, ready),
             BroadcastAction::EndSender(s) => self.end_sender(number, s, ready),
             BroadcastAction::Subscribe(s) => self.subscribe(number, s),
@@ -131,7 +131,7 @@ impl BroadcastPart {
 
     // Why a further sender is refused: the one beside it is unknown, or the channel has as many as it may have.
     fn cause_of_copy(&self, s: u64) -> Option<Stop>
-        ensures is { result ≡ broadcast_cause self.now.hall (AddSender s) }
+        ensures is { result ≡ broadcast_cause self.now.hall (CopySender s) }
         ensures tells { result ≢ Some Stop.NoMemory }
     {
         match self.senders.get(s) {
@@ -165,7 +165,7 @@ impl BroadcastPart {
     // changed.
     fn make(&mut self, number: u64, capacity: u64) -> Result<Reply, Stop>
         requires next { self.old.next ≤ number }
-        ensures { BroadcastActsQuietly self.old number (Open capacity) result self.new }
+        ensures { BroadcastActsQuietly self.old number (Make capacity) result self.new }
     {
         if let Some(stop) = cause_of_size(capacity) {
             return Err(stop);
@@ -187,7 +187,7 @@ impl BroadcastPart {
         requires new { IsFresh core 0 × IsNextPowerOfTwo capacity core.size }
         requires some { 0 < capacity }
         requires few { capacity ≤ 9223372036854775808 }
-        ensures { BroadcastActsQuietly self.old number (Open capacity) result self.new }
+        ensures { BroadcastActsQuietly self.old number (Make capacity) result self.new }
     {
         let receiver = ListenerEntry {
             channel: number,
@@ -216,7 +216,7 @@ impl BroadcastPart {
     // Makes a further sender. On an error nothing has changed.
     fn copy_sender(&mut self, number: u64, s: u64) -> Result<Reply, Stop>
         requires next { self.old.next ≤ number }
-        ensures { BroadcastActsQuietly self.old number (AddSender s) result self.new }
+        ensures { BroadcastActsQuietly self.old number (CopySender s) result self.new }
     {
         if let Some(stop) = self.cause_of_copy(s) {
             return Err(stop);
@@ -406,7 +406,7 @@ impl BroadcastPart {
         requires room { registered self.old.hall ≤ ready.old.registered }
         ensures { BroadcastActs self.old number (PollHear f waker) result self.new ready.old ready.new }
     {
-        let waker = NamedWaker { future: f, waker };
+        let waker = NamedWaker { name: f, waker };
         let Some(future) = self.futures.get_mut(f) else {
             return Err(Stop::Unknown);
         };
@@ -438,7 +438,7 @@ impl BroadcastPart {
 
 // Why a ring of this size is refused: it has no place, or more than it may have.
 fn cause_of_size(size: u64) -> Option<Stop>
-    ensures is { result ≡ broadcast_cause no_broadcasts (Open size) }
+    ensures is { result ≡ broadcast_cause no_broadcasts (Make size) }
     ensures tells { result ≢ Some Stop.NoMemory }
     ensures fits { IfNone result ((0 < size) × (size ≤ 9223372036854775808)) }
 {

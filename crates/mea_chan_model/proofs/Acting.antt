@@ -14,7 +14,7 @@ use Rattle.mea_family.specs.Play.{found}
 use Rattle.mea_by_name.proofs.Cases.{by_found, by_if}
 use Rattle.mea_chan_model.specs.Mailboxes as mailboxes
 use Rattle.mea_chan_model.specs.Mailboxes.{Mailbox, Mailboxes, Receiver, new_mailbox, kept, waker_in, woken, is_over, tidied_channels, with_message, woken_by_send, without_senders, less_sender, woken_by_end, without_receiver}
-use Rattle.mea_chan_model.specs.MailboxActions.{Action, Make, Copy, Send, SendLast, EndSender, Receive, Poll, EndReceiver, Turn, TellClosed, TellOver, TellMessage, act_in, registers_in, polled_in, ends_in}
+use Rattle.mea_chan_model.specs.MailboxActions.{Action, Make, Copy, Send, SendLast, EndSender, Receive, Poll, EndReceiver, IntoFuture, TellClosed, TellOver, TellMessage, act_in, registers_in, polled_in, ends_in}
 
 -- what has no cause is known, where it may be refused for another too
 pub known_but : (known other : Bool) (stop : Stop) → (if known then (if other then Some stop else None) else Some stops.Unknown) ≡ None → known ≡ true
@@ -257,10 +257,10 @@ module _ (h : Mailboxes) (i : ℕ) where
         at None none = record { k = i; touches = Fresh refl; channels = Same; receivers = Stay; over = λ fresh r is. absent r none is }
         at (Some x) mine = at_channel x (get h.channels x.channel) mine refl
 
-    turns : Goes (Turn q) 0 (act_in h i (Turn q))
-    turns = at (get h.receivers q) refl
+    becomes_future : Goes (IntoFuture q) 0 (act_in h i (IntoFuture q))
+    becomes_future = at (get h.receivers q) refl
       where
-        at : (p : Option Receiver) → get h.receivers q ≡ p → Goes (Turn q) 0 (found p h (mailboxes.turn h i q))
+        at : (p : Option Receiver) → get h.receivers q ≡ p → Goes (IntoFuture q) 0 (found p h (mailboxes.into_future h i q))
         at None none = record { k = i; touches = Fresh refl; channels = Same; receivers = Stay; over = λ fresh r is. absent r none is }
         at (Some x) mine = record {
           k = q;
@@ -280,7 +280,7 @@ goes h i (Receive r polls) = by_receiver h i (Receive r polls) (λ q is. absurd 
 goes h i (Poll r w) = by_receiver h i (Poll r w) (λ q is. absurd (cc)) r 1 _
     (λ x c receiver there. polls h i (Poll r w) (λ q is. absurd (cc)) r w x.channel x c c.queued (ap (λ b. cond b (Some w) None) (eq-eqb r r refl)) receiver refl refl there)
 goes h i (EndReceiver r polls falls) = ends_receiver h i r polls falls
-goes h i (Turn r) = turns h i r
+goes h i (IntoFuture r) = becomes_future h i r
 goes h i (TellClosed s) = by_sender h i (TellClosed s) (λ r is. absurd (cc)) s 0 _ (λ o c there. still h i (TellClosed s) (λ r is. absurd (cc)) 0 _)
 goes h i (TellOver r) = by_receiver h i (TellOver r) (λ q is. absurd (cc)) r 0 _ (λ x c receiver there. still h i (TellOver r) (λ q is. absurd (cc)) 0 _)
 goes h i (TellMessage r) = by_receiver h i (TellMessage r) (λ q is. absurd (cc)) r 0 _ (λ x c receiver there. still h i (TellMessage r) (λ q is. absurd (cc)) 0 _)

@@ -20,7 +20,7 @@ use Rattle.mea_chan_model.specs.MailboxActions as actions
 use Rattle.mea_chan_model.specs.MailboxActions.{Action, act_in, polled_in, ends_in}
 use Rattle.mea_chan_model.specs.Bounded as bounded
 use Rattle.mea_chan_model.specs.Bounded.{Bounded, Room, BoundedSend, waiting_at, is_full, is_got, at_room, at_room_in, woken_at, woken_in, granted, woken_by_grant, all_woken, joined, left_by, tidied_rooms}
-use Rattle.mea_chan_model.specs.BoundedActions.{BoundedAction, MakeRoom, CopySender, TrySend, BeginSend, PollSend, EndSend, TryReceive, PollReceive, DropSender, DropReceiver, bounded_act, bounded_polled, bounded_ends}
+use Rattle.mea_chan_model.specs.BoundedActions.{BoundedAction, Make, CopySender, TrySend, BeginSend, PollSend, EndSend, TryReceive, PollReceive, EndSender, EndReceiver, bounded_act, bounded_polled, bounded_ends}
 
 -- an action that does nothing
 abbrev nothing : Action
@@ -117,8 +117,8 @@ module _ (h : Bounded) (i : ℕ) where
       at x None = refl
       at x (Some r) = by_if (λ (out : Outcome Bounded). out.hall.mail ≡ h.mail) (waits (waiting_at r) f) _ _ (λ waits. refl) (λ other. by_if (λ (out : Outcome Bounded). out.hall.mail ≡ h.mail) x.polled _ _ (λ polled. refl) (λ new. refl))
 
-  drops_sender : (s : ℕ) → GoesAs (DropSender s)
-  drops_sender s = record { a = actions.EndSender s; sees = at (get h.mail.senders s) refl; polled = λ r. refl; ends = λ r. refl }
+  ends_sender : (s : ℕ) → GoesAs (EndSender s)
+  ends_sender s = record { a = actions.EndSender s; sees = at (get h.mail.senders s) refl; polled = λ r. refl; ends = λ r. refl }
     where
       at : (p : Option ℕ) → get h.mail.senders s ≡ p → Sees (found p h (λ o. bounded.sender_ended h o (act_in h.mail i (actions.EndSender s)))) (actions.EndSender s)
       at None is = sees_all (quietly h answers.Done) (actions.EndSender s)
@@ -126,7 +126,7 @@ module _ (h : Bounded) (i : ℕ) where
       at (Some o) is = sees_all (bounded.sender_ended h o (act_in h.mail i (actions.EndSender s))) (actions.EndSender s) refl refl
 
   pub goes_as : (b : BoundedAction) → GoesAs b
-  goes_as (MakeRoom n) = record { a = actions.Make true; sees = sees_all _ (actions.Make true) refl refl; polled = λ r. refl; ends = λ r. refl }
+  goes_as (Make n) = record { a = actions.Make true; sees = sees_all _ (actions.Make true) refl refl; polled = λ r. refl; ends = λ r. refl }
   goes_as (CopySender s) = record { a = actions.Copy s; sees = sees_all _ (actions.Copy s) refl refl; polled = λ r. refl; ends = λ r. refl }
   goes_as (TrySend s v) = sends s v
   goes_as (BeginSend s v) = record { a = nothing; sees = sees_nothing _ (by_found (λ out. out.hall.mail ≡ h.mail) (get h.mail.senders s) h _ refl (λ o is. refl)); polled = λ r. refl; ends = λ r. refl }
@@ -144,8 +144,8 @@ module _ (h : Bounded) (i : ℕ) where
     polled = λ r. refl;
     ends = λ r. refl;
   }
-  goes_as (DropSender s) = drops_sender s
-  goes_as (DropReceiver r) = record {
+  goes_as (EndSender s) = ends_sender s
+  goes_as (EndReceiver r) = record {
     a = actions.EndReceiver r true false;
     sees = by_receiver r _ (actions.EndReceiver r true false)
         (λ none. ap (λ p. found p h.mail (λ x. found (get h.mail.channels x.channel) (mailboxes.leaving h.mail r) (mailboxes.end_receiver (mailboxes.leaving h.mail r) false x.channel))) none)

@@ -137,7 +137,7 @@ module _ (h : Broadcasts) (n i : ℕ) (k : AreKept h n) (later : n ≤ i) where
         (λ stays. turned o xs' h.futures ss' firsts Stays thirds d small (omega (arith, less, few)) it served named)
 
     module _ (s : ℕ) (sender : get h.senders s ≡ Some o) where
-      pub adds : AreKept (broadcasts.add_sender h i o c).hall (i + 1)
+      pub adds : AreKept (broadcasts.copy_sender h i o c).hall (i + 1)
       adds = turned o h.receivers h.futures (insert h.senders i o) Stays Stays (Comes i o (omega arith) refl (λ x is. absurd (let none = fresh_sender in cc))) (record c { senders = c.senders + 1 }) small few (sender_added c xs ys heard)
           (let more = len-new (own of_itself o h.senders) i o (own-none of_itself o h.senders i fresh_sender) in let all = ap (λ m. len m) (own-put of_itself o h.senders i o refl) in omega (arith, more, all, k.served o c there)) named_still
 

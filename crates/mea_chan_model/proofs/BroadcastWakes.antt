@@ -17,7 +17,7 @@ use Rattle.mea_by_name.proofs.OneObject.{Goes, ObjectsGo, Same, Put, Made, Gone,
 use Rattle.mea_by_name.proofs.Own.{Stays, Comes, own-at, own-put, own-gone, own-empty, own-had, len-new}
 use Rattle.mea_chan_model.specs.Broadcasts as broadcasts
 use Rattle.mea_chan_model.specs.Broadcasts.{Broadcast, Broadcasts, Listener, Hearing, Stands, Behind, Holds, AtTail, waiting_at, of_hearing, is_over, tidied, stands, oldest, ring_size, new_broadcast, with_message, less_sender, woken_by_end, is_hearing}
-use Rattle.mea_chan_model.specs.BroadcastActions.{BroadcastAction, Open, AddSender, SendAll, EndSender, Subscribe, Resubscribe, CopyReceiver, Hear, EndReceiver, BeginHear, PollHear, EndHear, unusable, broadcast_cause, broadcast_act, broadcast_polled, broadcast_ends, broadcast_registers}
+use Rattle.mea_chan_model.specs.BroadcastActions.{BroadcastAction, Make, CopySender, SendAll, EndSender, Subscribe, Resubscribe, CopyReceiver, Hear, EndReceiver, BeginHear, PollHear, EndHear, unusable, broadcast_cause, broadcast_act, broadcast_polled, broadcast_ends, broadcast_registers}
 use Rattle.mea_chan_model.specs.BroadcastValid.{AreKept, AreHeard, Hears, of_listener, of_itself}
 use Rattle.mea_chan_model.proofs.OneBroadcast.{by_stands, sender_less, receiver_less, new_heard}
 use Rattle.std.specs.List.{Contains}
@@ -88,7 +88,7 @@ module _ (h : Broadcasts) (n i : ℕ) (k : AreKept h n) (later : n ≤ i) where
   unusable_free r x is allowed = free_there (get h.receivers r) x is allowed
 
   pub kept_after : (a : BroadcastAction) → broadcast_cause h a ≡ None → AreKept (broadcast_act h i a).hall (i + 1)
-  kept_after (Open m) allowed =
+  kept_after (Make m) allowed =
       let x : Listener = record { channel = i; cursor = 0; user = None } in
       let c : Broadcast = new_broadcast (ring_size m) in
       turned h n i k later i (insert h.receivers i x) h.futures (insert h.senders i i) (Comes i x (omega arith) refl (λ z is. absurd (let none = fresh_receiver h n i k later in cc))) Stays (Comes i i (omega arith) refl (λ z is. absurd (let none = fresh_sender h n i k later in cc))) c (omega arith) (omega arith)
@@ -101,7 +101,7 @@ module _ (h : Broadcasts) (n i : ℕ) (k : AreKept h n) (later : n ≤ i) where
     where
       no_channel : (q : ℕ) → i ≡ q → IsSome (get h.channels q) → ⊥
       no_channel q same some = absurd (let none = fresh_channel h n i k later in let gone = ap is_some (ap (get h.channels) (sym same) ∙ none) in let no = sym gone ∙ some in cc)
-  kept_after (AddSender s) allowed = kept_sender s _ (λ o c sender there. adds h n i k later o c there s sender)
+  kept_after (CopySender s) allowed = kept_sender s _ (λ o c sender there. adds h n i k later o c there s sender)
   kept_after (SendAll s v) allowed = kept_sender s _ (λ o c sender there. sends h n i k later o c there s sender v)
   kept_after (EndSender s) allowed = kept_sender s _ (λ o c sender there. ends_sender h n i k later o c there s sender)
   kept_after (Subscribe s) allowed = kept_sender s _ (λ o c sender there. joins h n i k later o c there c.tail (omega arith))
@@ -220,8 +220,8 @@ ends_goes h i f = at (get h.futures f) refl
     at (Some y) is = by_found P (get h.receivers y.receiver) (broadcasts.leaving h f) (broadcasts.end_future h f y.receiver) (gone (quietly (broadcasts.leaving h f) answers.Done) refl refl refl) (λ x receiver. gone (broadcasts.end_future h f y.receiver x) refl refl refl)
 
 pub goes : (h : Broadcasts) (i : ℕ) (a : BroadcastAction) → Goes waiting_at of_hearing h.channels h.futures (IsBefore h i a) (broadcast_polled a) (broadcast_ends a) i (cond (broadcast_registers a) 1 0) (broadcast_act h i a).hall.channels (broadcast_act h i a).hall.futures (broadcast_act h i a).wakes
-goes h i (Open m) = record { k = i; touches = None_is refl; objects = Made (new_broadcast (ring_size m)) refl; futures = Kept; over = λ f is. absurd (cc) }
-goes h i (AddSender s) = sender_goes h i (AddSender s) (λ f is. absurd (cc)) s 0 _ (λ o c sender there. channel_goes h i (AddSender s) (λ f is. absurd (cc)) o c (record c { senders = c.senders + 1 }) [] (broadcasts.add_sender h i o c) there (local_same c.waiting i) refl refl refl)
+goes h i (Make m) = record { k = i; touches = None_is refl; objects = Made (new_broadcast (ring_size m)) refl; futures = Kept; over = λ f is. absurd (cc) }
+goes h i (CopySender s) = sender_goes h i (CopySender s) (λ f is. absurd (cc)) s 0 _ (λ o c sender there. channel_goes h i (CopySender s) (λ f is. absurd (cc)) o c (record c { senders = c.senders + 1 }) [] (broadcasts.copy_sender h i o c) there (local_same c.waiting i) refl refl refl)
 goes h i (SendAll s v) = sender_goes h i (SendAll s v) (λ f is. absurd (cc)) s 0 _ (λ o c sender there. channel_goes h i (SendAll s v) (λ f is. absurd (cc)) o c (with_message c v) (wakers c.waiting) (broadcasts.send h v o c) there (local_drained c.waiting i) refl refl refl)
 goes h i (EndSender s) = sender_goes h i (EndSender s) (λ f is. absurd (cc)) s 0 _ (λ o c sender there. tidied_goes h i (EndSender s) (λ f is. absurd (cc)) o c (less_sender c) (woken_by_end c) (broadcasts.end_sender h s o c) there (less_local c i)
     (λ over before f y is mine. no_future h before.n i before.kept before.later o c there (less_sender c) h.receivers h.futures (sender_less c _ _ (before.kept.heard o c there)) (over_none (less_sender c) over).1 f y is mine) refl refl refl)

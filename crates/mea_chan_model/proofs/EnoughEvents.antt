@@ -30,7 +30,7 @@ use Rattle.mea_chan_model.specs.MailboxActions as actions
 use Rattle.mea_chan_model.specs.MailboxActions.{act_in}
 use Rattle.mea_chan_model.specs.Bounded as bounded
 use Rattle.mea_chan_model.specs.Bounded.{Bounded, Room, BoundedSend, waiting_at, is_full, is_full_in, is_got, at_room, at_room_in, woken_at, woken_in, granted, woken_by_grant, all_granted, all_woken, joined, left_by, tidied_rooms, sends_of, is_send}
-use Rattle.mea_chan_model.specs.BoundedActions.{BoundedAction, MakeRoom, CopySender, TrySend, BeginSend, PollSend, EndSend, TryReceive, PollReceive, DropSender, DropReceiver, bounded_act, bounded_cause}
+use Rattle.mea_chan_model.specs.BoundedActions.{BoundedAction, Make, CopySender, TrySend, BeginSend, PollSend, EndSend, TryReceive, PollReceive, EndSender, EndReceiver, bounded_act, bounded_cause}
 use Rattle.mea_chan_model.specs.ChanHall.{ChanHall, Unbounded, Full}
 use Rattle.mea_chan_model.specs.Meaning.{Meaning, OfChannels, OfBounded, OfBoxes, meaning_of, cause_by, step_by}
 use Rattle.mea_chan_model.specs.ChanFamily.{chans_family}
@@ -204,8 +204,8 @@ module _ (all : ChanHall) (e : ChanEvent) (h : Bounded) (last : ℕ → Option �
   nothing_done ws = mail_rested (record { hall = h.mail; reply = answers.Done; wakes = ws }) (λ s apart. refl) (λ q. lessens_same (get h.mail.channels q))
 
   -- ---- a channel is made
-  makes : (size : ℕ) → Rested (bounded_act h i (MakeRoom size))
-  makes size = rested (bounded_act h i (MakeRoom size)) i i (record {
+  makes : (size : ℕ) → Rested (bounded_act h i (Make size))
+  makes size = rested (bounded_act h i (Make size)) i i (record {
     queues = λ q apart. ap queue_in (get-other h.rooms i q new apart);
     capacities = λ q apart. ap capacity_in (get-other h.rooms i q new apart);
     others = λ f apart. refl;
@@ -528,7 +528,7 @@ module _ (all : ChanHall) (e : ChanEvent) (h : Bounded) (last : ℕ → Option �
         shut = λ ends. now ∙ poured_none (queue_at h o) (held.shut o (sym took.one.ended ∙ ends));
       })
 
-  no_sends : (s : ℕ) → bounded_cause h (DropSender s) ≡ None → (is_sender h.mail s ≡ true) × (sends_of h s ≡ 0)
+  no_sends : (s : ℕ) → bounded_cause h (EndSender s) ≡ None → (is_sender h.mail s ≡ true) × (sends_of h s ≡ 0)
   no_sends s = at (is_sender h.mail s) (sends_of h s)
     where
       at : (there : Bool) (k : ℕ) → (if there then (if nat_lt 0 k then Some stops.Borrowed else None) else Some stops.Unknown) ≡ None → (there ≡ true) × (k ≡ 0)
@@ -631,7 +631,7 @@ module _ (all : ChanHall) (e : ChanEvent) (h : Bounded) (last : ℕ → Option �
   quiet reply = nothing_done []
 
   pub acts : (b : BoundedAction) → bounded_cause h b ≡ None → Good b (bounded_act h i b)
-  acts (MakeRoom size) allowed = makes size
+  acts (Make size) allowed = makes size
   acts (CopySender s) allowed = mail_rested (act_in h.mail i (actions.Copy s)) (λ f apart. copy_senders h.mail i s f apart) (copy_lessens h.mail i s)
   acts (TrySend s v) allowed = by_found Rested (get h.mail.senders s) h _ (quiet answers.Done)
       (λ o is. by_if Rested (is_full h o) _ _ (λ full. quiet (answers.Full v)) (λ room. mail_rested (act_in h.mail i (actions.Send s v)) (λ f apart. ap (λ (ss : Names ℕ). get ss f) (send_senders h.mail i s v)) (send_lessens h.mail i s v)))
@@ -644,8 +644,8 @@ module _ (all : ChanHall) (e : ChanEvent) (h : Bounded) (last : ℕ → Option �
   acts (EndSend f) allowed = by_found Rested (get h.sends f) h _ (quiet answers.Done) (λ x is. ends_it f x is)
   acts (TryReceive r) allowed = by_found Rested (get h.mail.receivers r) h _ (quiet answers.Done) (λ x is. received_mail x.channel (act_in h.mail i (actions.Receive r true)) (received_took h.mail i r x true is))
   acts (PollReceive r w) allowed = by_found Rested (get h.mail.receivers r) h _ (quiet answers.Done) (λ x is. received_mail x.channel (act_in h.mail i (actions.Poll r w)) (polled_took h.mail i r w x is))
-  acts (DropSender s) allowed = by_found Rested (get h.mail.senders s) h _ (quiet answers.Done) (λ o is. sender_gone s o (no_sends s allowed).1)
-  acts (DropReceiver r) allowed = by_found Rested (get h.mail.receivers r) h _ (quiet answers.Done) (λ x is. receiver_gone r x is)
+  acts (EndSender s) allowed = by_found Rested (get h.mail.senders s) h _ (quiet answers.Done) (λ o is. sender_gone s o (no_sends s allowed).1)
+  acts (EndReceiver r) allowed = by_found Rested (get h.mail.receivers r) h _ (quiet answers.Done) (λ x is. receiver_gone r x is)
 
 -- ---- the channels of all kinds
 module _ (h : ChanHall) (e : ChanEvent) (last : ℕ → Option ℕ) (since : ℕ → List ℕ) (n i : ℕ) (held : Held h.bounded last since n) (later : n ≤ i) (fresh : get h.bounded.mail.channels i ≡ None) where

@@ -14,10 +14,11 @@ use Rattle.mea_family.specs.Play.{found}
 use Rattle.mea_by_name.proofs.Cases.{by_found, by_if}
 use Rattle.mea_chan_model.specs.Mailboxes as mailboxes
 use Rattle.mea_chan_model.specs.Mailboxes.{Mailbox, Mailboxes, Receiver, new_mailbox, is_over, with_message, sent, without_senders, less_sender, without_receiver}
-use Rattle.mea_chan_model.specs.MailboxActions.{Action, Make, Copy, Send, SendLast, EndSender, Receive, Poll, EndReceiver, Turn, TellClosed, TellOver, TellMessage, act_in}
+use Rattle.mea_chan_model.specs.MailboxActions.{Action, Make, Copy, Send, SendLast, EndSender, Receive, Poll, EndReceiver, IntoFuture, TellClosed, TellOver, TellMessage, act_in}
 use Rattle.mea_chan_model.specs.Bounded as bounded
 use Rattle.mea_chan_model.specs.Bounded.{Bounded, is_full, is_got, at_room, granted, woken_at, woken_by_grant}
-use Rattle.mea_chan_model.specs.BoundedActions.{BoundedAction, MakeRoom, CopySender, TrySend, BeginSend, PollSend, EndSend, TryReceive, PollReceive, DropSender, DropReceiver, bounded_act}
+use Rattle.mea_chan_model.specs.declared.bounded_action.BoundedAction.TheVariants as bounded_actions
+use Rattle.mea_chan_model.specs.BoundedActions.{BoundedAction, CopySender, TrySend, BeginSend, PollSend, EndSend, TryReceive, PollReceive, bounded_act}
 use Rattle.mea_chan_model.specs.BroadcastActions.{BroadcastAction, broadcast_act}
 use Rattle.mea_chan_model.specs.Boxes.{BoxAction}
 use Rattle.mea_chan_model.specs.ChanHall.{ChanHall, Kind, Unbounded, Oneshots, ReceiverKind, ReceiverOf, ReceiverOfBounded, BoxKind, part, mail, empty_hall}
@@ -178,8 +179,8 @@ module _ (i o : ℕ) where
         Opens (get h.channels o) (get (insert h.channels i new_mailbox) o) (sym same) (ap queued_in none) (ap queued_in new) (ap ended_in new))
         (λ apart. let other = get-other h.channels i o new_mailbox apart in Rests (get h.channels o) (get (insert h.channels i new_mailbox) o) (ap queued_in other) (ap ended_in other))
 
-    turns : (r : ℕ) → Does (act_in h i (Turn r)).hall.channels nothing
-    turns r = by_found (λ (out : Outcome Mailboxes). Does out.hall.channels nothing) (get h.receivers r) h _ still (λ x receiver. still)
+    becomes_future : (r : ℕ) → Does (act_in h i (IntoFuture r)).hall.channels nothing
+    becomes_future r = by_found (λ (out : Outcome Mailboxes). Does out.hall.channels nothing) (get h.receivers r) h _ still (λ x receiver. still)
 
     moves : (a : Action) → get h.channels i ≡ None → Does (act_in h i a).hall.channels (moved_by h a (act_in h i a).reply o)
     moves (Make polls) fresh = makes polls fresh
@@ -191,7 +192,7 @@ module _ (i o : ℕ) where
     moves (Receive r polls) fresh = by_receiver r _ receives refl (λ q c is. receives_at q c c.queued is refl)
     moves (Poll r w) fresh = by_receiver r _ receives refl (λ q c is. polls_at w q c c.queued is refl)
     moves (EndReceiver r polls falls) fresh = ends_at r polls falls
-    moves (Turn r) fresh = turns r
+    moves (IntoFuture r) fresh = becomes_future r
     moves (TellClosed s) fresh = rests_by_sender s _ (λ q c is. still_at (Some q))
     moves (TellOver r) fresh = rests_by_receiver r _ (λ q c is. still_at (Some q))
     moves (TellMessage r) fresh = rests_by_receiver r _ (λ q c is. still_at (Some q))
@@ -299,7 +300,7 @@ module _ (i o : ℕ) (h : Bounded) where
         at x (Some r) = by_if (λ (out : Outcome Bounded). out.hall.mail ≡ h.mail) (waits (bounded.waiting_at r) f) _ _ (λ waits. refl) (λ other. by_if (λ (out : Outcome Bounded). out.hall.mail ≡ h.mail) x.polled _ _ (λ polled. refl) (λ new. refl))
 
     bounded_moves : (b : BoundedAction) → BoundedDoes (bounded_act h i b) (bounded_moved_by h b (bounded_act h i b).reply o)
-    bounded_moves (MakeRoom n) = as_mail (bounded_act h i (MakeRoom n)) (Make true) refl refl
+    bounded_moves (bounded_actions.Make n) = as_mail (bounded_act h i (bounded_actions.Make n)) (Make true) refl refl
     bounded_moves (CopySender s) = as_mail (bounded_act h i (CopySender s)) (Copy s) refl refl
     bounded_moves (TrySend s v) = bounded_sends s v
     bounded_moves (BeginSend s v) = alone (bounded_act h i (BeginSend s v)) (by_found (λ out. out.hall.mail ≡ h.mail) (get h.mail.senders s) h _ refl (λ q is. refl))
@@ -307,9 +308,9 @@ module _ (i o : ℕ) (h : Bounded) where
     bounded_moves (EndSend f) = alone (bounded_act h i (EndSend f)) (ends_unmoved f)
     bounded_moves (TryReceive r) = by_bounded_receiver r _ receives (λ x. bounded_receives x.channel (Receive r true))
     bounded_moves (PollReceive r w) = by_bounded_receiver r _ receives (λ x. bounded_receives x.channel (Poll r w))
-    bounded_moves (DropSender s) = by_found (λ out. BoundedDoes out nothing) (get h.mail.senders s) h _ (alone (quietly h answers.Done) refl)
+    bounded_moves (bounded_actions.EndSender s) = by_found (λ out. BoundedDoes out nothing) (get h.mail.senders s) h _ (alone (quietly h answers.Done) refl)
         (λ q is. as_mail (bounded.sender_ended h q (act_in h.mail i (EndSender s))) (EndSender s) refl refl)
-    bounded_moves (DropReceiver r) = by_bounded_receiver r _ (λ reply. drops (queued_in (get h.mail.channels o))) (λ x. as_mail (bounded.receiver_ended h x.channel (act_in h.mail i (EndReceiver r true false))) (EndReceiver r true false) refl refl)
+    bounded_moves (bounded_actions.EndReceiver r) = by_bounded_receiver r _ (λ reply. drops (queued_in (get h.mail.channels o))) (λ x. as_mail (bounded.receiver_ended h x.channel (act_in h.mail i (EndReceiver r true false))) (EndReceiver r true false) refl refl)
 
 -- ---- the channels of all kinds
 moved-there : (h : ChanHall) (k : Kind) (a : Action) (reply : Answer) (o : ℕ) → moved_at h (ReceiverOf k) (OfChannels k a) reply o ≡ moved_by (part h k) a reply o

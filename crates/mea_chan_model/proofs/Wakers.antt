@@ -42,7 +42,8 @@ use Rattle.mea_chan_model.proofs.BroadcastWakes.{none_kept, kept_after, broadcas
 use Rattle.mea_chan_model.specs.Bounded as bounded
 use Rattle.mea_chan_model.specs.Bounded.{Bounded, Room, BoundedSend, waiting_at, woken_at, is_full, is_got, granted, woken_by_grant, all_granted, all_woken, joined, left_by}
 use Rattle.mea_chan_model.specs.MailboxActions as actions
-use Rattle.mea_chan_model.specs.BoundedActions.{BoundedAction, MakeRoom, CopySender, TrySend, BeginSend, PollSend, EndSend, TryReceive, PollReceive, DropSender, DropReceiver, bounded_cause, bounded_act, bounded_polled, bounded_registers}
+use Rattle.mea_chan_model.specs.declared.bounded_action.BoundedAction.TheVariants as bounded_actions
+use Rattle.mea_chan_model.specs.BoundedActions.{BoundedAction, CopySender, TrySend, BeginSend, PollSend, EndSend, TryReceive, PollReceive, bounded_cause, bounded_act, bounded_polled, bounded_registers}
 use Rattle.mea_chan_model.proofs.BoundedActing.{goes_as, poll_hall, poll_reply, Rooms, at_room_counted, no_wake, joined_local, left_local, granted_local, tidied_counted}
 use Rattle.mea_chan_model.proofs.Acting.{Awake, after, ChannelsGo, Same, At, Made, ReceiversGo, Stay, Come, Change, Leave, Touches, Fresh, Polled, Ends, goes}
 
@@ -571,7 +572,7 @@ module _ (h : Bounded) (i : ℕ) where
       (λ new. (omega arith, omega arith)))
 
   bounded_counts : (b : BoundedAction) → Counts h (bounded_act h i b) (cond (bounded_registers b) 1 0)
-  bounded_counts (MakeRoom n) = let c = both_counted h i (actions.Make true) _ _ 0 (counted_made waiting_at h.rooms i (record { capacity = n; queue = [] }) 0 refl) in (omega (arith, c.0), omega (arith, c.1))
+  bounded_counts (bounded_actions.Make n) = let c = both_counted h i (actions.Make true) _ _ 0 (counted_made waiting_at h.rooms i (record { capacity = n; queue = [] }) 0 refl) in (omega (arith, c.0), omega (arith, c.1))
   bounded_counts (CopySender s) = mail_counts (actions.Copy s)
   bounded_counts (TrySend s v) = by_found (λ out. Counts h out 0) (get h.mail.senders s) h _ (still_counts answers.Done 0)
       (λ o is. by_if (λ out. Counts h out 0) (is_full h o) _ _ (λ full. still_counts (answers.Full v) 0) (λ room. mail_counts (actions.Send s v)))
@@ -580,9 +581,9 @@ module _ (h : Bounded) (i : ℕ) where
   bounded_counts (EndSend f) = by_found (λ out. Counts h out 0) (get h.sends f) h _ (still_counts answers.Done 0) (λ x is. ends_send_counts f x (get h.rooms x.channel) refl)
   bounded_counts (TryReceive r) = by_found (λ out. Counts h out 0) (get h.mail.receivers r) h _ (still_counts answers.Done 0) (λ x is. received_counts x.channel (actions.Receive r true))
   bounded_counts (PollReceive r w) = by_found (λ out. Counts h out 1) (get h.mail.receivers r) h _ (still_counts answers.Done 1) (λ x is. received_counts x.channel (actions.Poll r w))
-  bounded_counts (DropSender s) = by_found (λ out. Counts h out 0) (get h.mail.senders s) h _ (still_counts answers.Done 0)
+  bounded_counts (bounded_actions.EndSender s) = by_found (λ out. Counts h out 0) (get h.mail.senders s) h _ (still_counts answers.Done 0)
       (λ o is. let c = both_counted h i (actions.EndSender s) _ _ 0 (tidied_counted h.rooms h.rooms o [] (is_channel (act_in h.mail i (actions.EndSender s)).hall o) 0 (counted_same waiting_at h.rooms 0)) in (omega (arith, c.0), omega (arith, c.1)))
-  bounded_counts (DropReceiver r) = by_found (λ out. Counts h out 0) (get h.mail.receivers r) h _ (still_counts answers.Done 0)
+  bounded_counts (bounded_actions.EndReceiver r) = by_found (λ out. Counts h out 0) (get h.mail.receivers r) h _ (still_counts answers.Done 0)
       (λ x is.
       let all = at_room_counted h.rooms x.channel 0 0 all_granted all_woken (λ r. granted_local (lacks r.queue) r) in
       let out = act_in h.mail i (actions.EndReceiver r true false) in

@@ -9,7 +9,7 @@ use Rattle.mea_family.specs.Play.{found}
 use Rattle.mea_chan_model.specs.Broadcasts as broadcasts
 use Rattle.mea_chan_model.specs.Broadcasts.{Broadcast, Broadcasts, Listener, is_sender, is_hearing, ring_size, senders_in, tail_in, channel_of, stands}
 pub use Rattle.mea_chan_model.specs.declared.broadcast_action.BroadcastAction.{BroadcastAction}
-pub use Rattle.mea_chan_model.specs.declared.broadcast_action.BroadcastAction.TheVariants.{Open, AddSender, SendAll, EndSender, Subscribe, Resubscribe, CopyReceiver, Hear, EndReceiver, BeginHear, PollHear, EndHear}
+pub use Rattle.mea_chan_model.specs.declared.broadcast_action.BroadcastAction.TheVariants.{Make, CopySender, SendAll, EndSender, Subscribe, Resubscribe, CopyReceiver, Hear, EndReceiver, BeginHear, PollHear, EndHear}
 
 -- the greatest size of a ring, the greatest number of senders, and the last position
 abbrev pub most_size : ℕ
@@ -30,8 +30,8 @@ unusable (Some x) = if is_some x.user then Some stops.Borrowed else None
 
 -- why an action is refused; none where it is not
 abbrev pub broadcast_cause : Broadcasts → BroadcastAction → Option Stop
-broadcast_cause h (Open n) = if n == 0 then Some stops.Zero else if nat_lt most_size n then Some stops.Overflow else None
-broadcast_cause h (AddSender s) = if is_sender h s then (if senders_in (channel_of h (get h.senders s)) == most_senders then Some stops.Overflow else None) else Some stops.Unknown
+broadcast_cause h (Make n) = if n == 0 then Some stops.Zero else if nat_lt most_size n then Some stops.Overflow else None
+broadcast_cause h (CopySender s) = if is_sender h s then (if senders_in (channel_of h (get h.senders s)) == most_senders then Some stops.Overflow else None) else Some stops.Unknown
 broadcast_cause h (SendAll s v) = if is_sender h s then (if tail_in (channel_of h (get h.senders s)) == last_tail then Some stops.Overflow else None) else Some stops.Unknown
 broadcast_cause h (EndSender s) = unknown_unless (is_sender h s)
 broadcast_cause h (Subscribe s) = unknown_unless (is_sender h s)
@@ -57,8 +57,8 @@ by_future h f act = found (get h.futures f) h (λ y. found (get h.receivers y.re
 
 -- what is done under number i
 abbrev pub broadcast_act : Broadcasts → ℕ → BroadcastAction → Outcome Broadcasts
-broadcast_act h i (Open n) = broadcasts.make h i (ring_size n)
-broadcast_act h i (AddSender s) = by_sender h s (broadcasts.add_sender h i)
+broadcast_act h i (Make n) = broadcasts.make h i (ring_size n)
+broadcast_act h i (CopySender s) = by_sender h s (broadcasts.copy_sender h i)
 broadcast_act h i (SendAll s v) = by_sender h s (broadcasts.send h v)
 broadcast_act h i (EndSender s) = by_sender h s (broadcasts.end_sender h s)
 broadcast_act h i (Subscribe s) = by_sender h s (λ o c. broadcasts.join h i c.tail o c)

@@ -151,8 +151,9 @@ make h i size = quietly (record h {
   receivers = insert h.receivers i (record { channel = i; cursor = 0; user = None });
 }) answers.Made
 
-abbrev pub add_sender : Broadcasts → ℕ → ℕ → Broadcast → Outcome Broadcasts
-add_sender h i o c = quietly (record h { channels = insert h.channels o (record c { senders = c.senders + 1 }); senders = insert h.senders i o }) answers.Made
+-- a further sender of o
+abbrev pub copy_sender : Broadcasts → ℕ → ℕ → Broadcast → Outcome Broadcasts
+copy_sender h i o c = quietly (record h { channels = insert h.channels o (record c { senders = c.senders + 1 }); senders = insert h.senders i o }) answers.Made
 
 -- the message v is sent to all receivers of o, and all who wait are woken
 abbrev pub send : Broadcasts → ℕ → ℕ → Broadcast → Outcome Broadcasts

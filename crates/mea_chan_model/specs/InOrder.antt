@@ -8,7 +8,8 @@ use Rattle.mea_events.specs.declared.chan_event.ChanEvent.{ChanEvent}
 use Rattle.mea_chan_model.specs.Mailboxes.{Mailbox, Mailboxes, Receiver}
 use Rattle.mea_chan_model.specs.MailboxActions.{Action, Send, SendLast, Receive, Poll, EndReceiver}
 use Rattle.mea_chan_model.specs.Bounded.{Bounded, BoundedSend}
-use Rattle.mea_chan_model.specs.BoundedActions.{BoundedAction, TrySend, PollSend, TryReceive, PollReceive, DropReceiver}
+use Rattle.mea_chan_model.specs.declared.bounded_action.BoundedAction.TheVariants as bounded_actions
+use Rattle.mea_chan_model.specs.BoundedActions.{BoundedAction, TrySend, PollSend, TryReceive, PollReceive}
 use Rattle.mea_chan_model.specs.ChanHall.{ChanHall, Unbounded, Oneshots, ReceiverKind, ReceiverOf, ReceiverOfBounded}
 use Rattle.mea_chan_model.specs.Meaning.{Meaning, OfChannels, OfBounded, meaning_of}
 
@@ -83,7 +84,7 @@ bounded_moved_by h (TrySend s v) reply o = moved_by h.mail (Send s v) reply o
 bounded_moved_by h (PollSend f w) reply o = moved_by_send h (get h.sends f) reply o
 bounded_moved_by h (TryReceive r) reply o = moved_by h.mail (Receive r true) reply o
 bounded_moved_by h (PollReceive r w) reply o = moved_by h.mail (Poll r w) reply o
-bounded_moved_by h (DropReceiver r) reply o = moved_by h.mail (EndReceiver r true false) reply o
+bounded_moved_by h (bounded_actions.EndReceiver r) reply o = moved_by h.mail (EndReceiver r true false) reply o
 bounded_moved_by h _ reply o = nothing
 
 -- what was moved at the channel o of one kind by what a line means

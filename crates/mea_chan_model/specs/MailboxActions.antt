@@ -25,7 +25,7 @@ pub data Action : Type 0 where
   -- a receiver is gone: whether it can be polled, and whether its waker falls
   EndReceiver : ℕ → Bool → Bool → Action
   -- a receiver becomes a future
-  Turn : ℕ → Action
+  IntoFuture : ℕ → Action
   -- it is told to a sender whether the receiver has ended, and to a receiver whether no message will come, or one is there
   TellClosed : ℕ → Action
   TellOver : ℕ → Action
@@ -45,7 +45,7 @@ cause_in h (EndSender s) = unknown_unless (is_sender h s)
 cause_in h (Receive r polls) = unknown_unless (is_receiver h r polls)
 cause_in h (Poll r w) = unknown_unless (is_receiver h r true)
 cause_in h (EndReceiver r polls falls) = unknown_unless (is_receiver h r polls)
-cause_in h (Turn r) = unknown_unless (is_receiver h r false)
+cause_in h (IntoFuture r) = unknown_unless (is_receiver h r false)
 cause_in h (TellClosed s) = unknown_unless (is_sender h s)
 cause_in h (TellOver r) = unknown_unless (is_receiver h r false)
 cause_in h (TellMessage r) = unknown_unless (is_receiver h r false)
@@ -68,7 +68,7 @@ act_in h i (EndSender s) = by_sender h s (mailboxes.end_sender h s)
 act_in h i (Receive r polls) = by_receiver h r (λ o c. mailboxes.receive_of h o c c.queued)
 act_in h i (Poll r w) = by_receiver h r (λ o c. mailboxes.poll_of h w o c c.queued)
 act_in h i (EndReceiver r polls falls) = found (get h.receivers r) h (λ x. found (get h.channels x.channel) (mailboxes.leaving h r) (mailboxes.end_receiver (mailboxes.leaving h r) falls x.channel))
-act_in h i (Turn r) = found (get h.receivers r) h (mailboxes.turn h i r)
+act_in h i (IntoFuture r) = found (get h.receivers r) h (mailboxes.into_future h i r)
 act_in h i (TellClosed s) = by_sender h s (λ o c. mailboxes.tell h c.ended)
 act_in h i (TellOver r) = by_receiver h r (λ o c. mailboxes.tell h (if c.senders == 0 then is_empty c.queued else false))
 act_in h i (TellMessage r) = by_receiver h r (λ o c. mailboxes.tell h (if is_empty c.queued then false else true))
@@ -81,7 +81,7 @@ polled_in _ r = None
 -- whether r is gone: it ends, or becomes a future
 abbrev pub ends_in : Action → ℕ → Bool
 ends_in (EndReceiver q polls falls) r = q == r
-ends_in (Turn q) r = q == r
+ends_in (IntoFuture q) r = q == r
 ends_in _ r = false
 
 -- whether a waker may be registered

@@ -189,8 +189,8 @@ abbrev pub end_receiver : Mailboxes → Bool → ℕ → Mailbox → Outcome Mai
 end_receiver h falls o c = quietly (tidied h o (without_receiver falls c)) answers.Done
 
 -- the receiver goes on as a future
-abbrev pub turn : Mailboxes → ℕ → ℕ → Receiver → Outcome Mailboxes
-turn h i r x = quietly (record h { receivers = insert (remove h.receivers r) i (record { channel = x.channel; polls = true }) }) answers.Made
+abbrev pub into_future : Mailboxes → ℕ → ℕ → Receiver → Outcome Mailboxes
+into_future h i r x = quietly (record h { receivers = insert (remove h.receivers r) i (record { channel = x.channel; polls = true }) }) answers.Made
 
 -- yes or no is told, and nothing changes
 abbrev pub tell : Mailboxes → Bool → Outcome Mailboxes

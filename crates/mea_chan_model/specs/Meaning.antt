@@ -5,9 +5,10 @@ use Rattle.mea_family.specs.Family.{Outcome}
 use Rattle.mea_events.specs.declared.chan_event.ChanEvent.{ChanEvent}
 use Rattle.mea_events.specs.declared.chan_event.ChanEvent.TheVariants.{MbNew, MbCopy, MbTry, MbSend, MbPoll, MbEnd, MbTryr, MbRecv, MbEnds, MbEndr, BcNew, BcCopys, BcSend, BcSub, BcResub, BcCopyr, BcTry, BcRecv, BcPoll, BcEnd, BcEndr, BcEnds, MuNew, MuCopy, MuSend, MuTryr, MuRecv, MuEnds, MuEndr, OsNew, OsSend, OsEnds, OsClosed, OsClosedr, OsHas, OsTry, OsInto, OsPoll, OsEndr, OsEnd, AbNew, AbSwap, AbStore, AbGet, AbInto, AbDrop, AoNew, AoNone, AoSwap, AoStore, AoClear, AoTake, AoGet, AoInto, AoDrop}
 use Rattle.mea_chan_model.specs.Mailboxes.{Mailboxes}
-use Rattle.mea_chan_model.specs.MailboxActions.{Action, Make, Copy, Send, SendLast, EndSender, Receive, Poll, EndReceiver, Turn, TellClosed, TellOver, TellMessage, cause_in, act_in, registers_in}
+use Rattle.mea_chan_model.specs.MailboxActions.{Action, Make, Copy, Send, SendLast, EndSender, Receive, Poll, EndReceiver, IntoFuture, TellClosed, TellOver, TellMessage, cause_in, act_in, registers_in}
 use Rattle.mea_chan_model.specs.Bounded.{Bounded}
-use Rattle.mea_chan_model.specs.BoundedActions.{BoundedAction, MakeRoom, CopySender, TrySend, BeginSend, PollSend, EndSend, TryReceive, PollReceive, DropSender, DropReceiver, bounded_cause, bounded_act, bounded_registers}
+use Rattle.mea_chan_model.specs.BoundedActions as bounded
+use Rattle.mea_chan_model.specs.BoundedActions.{BoundedAction, bounded_cause, bounded_act, bounded_registers}
 use Rattle.mea_chan_model.specs.Broadcasts.{Broadcasts}
 use Rattle.mea_chan_model.specs.BroadcastActions as broadcast
 use Rattle.mea_chan_model.specs.BroadcastActions.{BroadcastAction, broadcast_cause, broadcast_act, broadcast_registers}
@@ -24,18 +25,18 @@ pub data Meaning : Type 0 where
 -- the receiver of an unbounded channel can be polled, and its waker outlives it; that of a oneshot has to become a future,
 -- and its waker falls with it
 abbrev pub meaning_of : ChanEvent → Meaning
-meaning_of (MbNew n) = OfBounded (MakeRoom n)
-meaning_of (MbCopy s) = OfBounded (CopySender s)
-meaning_of (MbTry s v) = OfBounded (TrySend s v)
-meaning_of (MbSend s v) = OfBounded (BeginSend s v)
-meaning_of (MbPoll f w) = OfBounded (PollSend f w)
-meaning_of (MbEnd f) = OfBounded (EndSend f)
-meaning_of (MbTryr r) = OfBounded (TryReceive r)
-meaning_of (MbRecv r w) = OfBounded (PollReceive r w)
-meaning_of (MbEnds s) = OfBounded (DropSender s)
-meaning_of (MbEndr r) = OfBounded (DropReceiver r)
-meaning_of (BcNew n) = OfBroadcasts (broadcast.Open n)
-meaning_of (BcCopys s) = OfBroadcasts (broadcast.AddSender s)
+meaning_of (MbNew n) = OfBounded (bounded.Make n)
+meaning_of (MbCopy s) = OfBounded (bounded.CopySender s)
+meaning_of (MbTry s v) = OfBounded (bounded.TrySend s v)
+meaning_of (MbSend s v) = OfBounded (bounded.BeginSend s v)
+meaning_of (MbPoll f w) = OfBounded (bounded.PollSend f w)
+meaning_of (MbEnd f) = OfBounded (bounded.EndSend f)
+meaning_of (MbTryr r) = OfBounded (bounded.TryReceive r)
+meaning_of (MbRecv r w) = OfBounded (bounded.PollReceive r w)
+meaning_of (MbEnds s) = OfBounded (bounded.EndSender s)
+meaning_of (MbEndr r) = OfBounded (bounded.EndReceiver r)
+meaning_of (BcNew n) = OfBroadcasts (broadcast.Make n)
+meaning_of (BcCopys s) = OfBroadcasts (broadcast.CopySender s)
 meaning_of (BcSend s v) = OfBroadcasts (broadcast.SendAll s v)
 meaning_of (BcSub s) = OfBroadcasts (broadcast.Subscribe s)
 meaning_of (BcResub r) = OfBroadcasts (broadcast.Resubscribe r)
@@ -60,7 +61,7 @@ meaning_of (OsClosed s) = OfChannels Oneshots (TellClosed s)
 meaning_of (OsClosedr r) = OfChannels Oneshots (TellOver r)
 meaning_of (OsHas r) = OfChannels Oneshots (TellMessage r)
 meaning_of (OsTry r) = OfChannels Oneshots (Receive r false)
-meaning_of (OsInto r) = OfChannels Oneshots (Turn r)
+meaning_of (OsInto r) = OfChannels Oneshots (IntoFuture r)
 meaning_of (OsPoll f w) = OfChannels Oneshots (Poll f w)
 meaning_of (OsEndr r) = OfChannels Oneshots (EndReceiver r false true)
 meaning_of (OsEnd f) = OfChannels Oneshots (EndReceiver f true true)

@@ -3,7 +3,7 @@
 #[derive(Clone, Copy)]
 pub enum BoundedAction {
     /// Makes a channel with room for so many messages, with a sender and a receiver.
-    MakeRoom(u64),
+    Make(u64),
     /// Makes a further sender, beside one: `s`.
     CopySender(u64),
     /// Sends a message at once, or not at all: `s`, message.
@@ -19,7 +19,7 @@ pub enum BoundedAction {
     /// Polls a receiver: `r`, waker.
     PollReceive(u64, u64),
     /// Ends a sender that has no send: `s`.
-    DropSender(u64),
+    EndSender(u64),
     /// Ends a receiver: `r`.
-    DropReceiver(u64),
+    EndReceiver(u64),
 }

@@ -3,9 +3,9 @@
 #[derive(Clone, Copy)]
 pub enum BroadcastAction {
     /// Makes a channel whose ring keeps so many messages or more, with a sender and a receiver.
-    Open(u64),
+    Make(u64),
     /// Makes a further sender, beside one: `s`.
-    AddSender(u64),
+    CopySender(u64),
     /// Sends a message to all receivers: `s`, message.
     SendAll(u64, u64),
     /// Ends a sender: `s`.

@@ -38,7 +38,7 @@ same_tests a b c d to back = by_name a b (λ same. eq-eqb a b same ∙ sym (eq-e
 -- each who waits has the number n exactly where it has the name f
 abbrev Agrees : Queue → ℕ → ℕ → Type 0
 Agrees [] n f = Unit {0}
-Agrees ((Acquires m d k, l) ∷ q) n f = ((m == n) ≡ (k.future == f)) × Agrees q n f
+Agrees ((Acquires m d k, l) ∷ q) n f = ((m == n) ≡ (k.name == f)) × Agrees q n f
 Agrees ((Owes, l) ∷ q) n f = Agrees q n f
 
 module _ (acquires : Names Acquire) (f d n : ℕ) (there : get acquires f ≡ Some (Queued d n))
@@ -46,7 +46,7 @@ module _ (acquires : Names Acquire) (f d n : ℕ) (there : get acquires f ≡ So
   agrees : (q : Queue) → AreOf acquires q → Agrees q n f
   agrees [] are = tt
   agrees ((Acquires m e k, l) ∷ q) are = (
-    same_tests m n k.future f (λ same. apart k.future f e d n (are.0 ∙ ap (λ j. Some (Queued e j)) same) there)
+    same_tests m n k.name f (λ same. apart k.name f e d n (are.0 ∙ ap (λ j. Some (Queued e j)) same) there)
         (λ same. let mine : get acquires f ≡ Some (Queued e m) = sym (ap (get acquires) same) ∙ are.0 in cc),
     agrees q are.1,
   )
@@ -55,7 +55,7 @@ module _ (acquires : Names Acquire) (f d n : ℕ) (there : get acquires f ≡ So
 -- ---- the queue by names
 waits-names : (q : Queue) (n f : ℕ) → HasNoDebt q → Agrees q n f → waits (who (names_in q)) f ≡ is_some (waiting q n)
 waits-names [] n f none agree = refl
-waits-names ((Acquires m d k, l) ∷ q) n f none agree = elim (m == n) as (λ b. b ≡ (k.future == f) → is_some (cond (k.future == f) (Some k.waker) (waker_for (who (names_in q)) f)) ≡ is_some (cond b (Some (d, l)) (waiting q n))) [
+waits-names ((Acquires m d k, l) ∷ q) n f none agree = elim (m == n) as (λ b. b ≡ (k.name == f) → is_some (cond (k.name == f) (Some k.waker) (waker_for (who (names_in q)) f)) ≡ is_some (cond b (Some (d, l)) (waiting q n))) [
   | true ↦ λ is. ap (λ b. is_some (cond b (Some k.waker) (waker_for (who (names_in q)) f))) (sym is)
   | false ↦ λ is. ap (λ b. is_some (cond b (Some k.waker) (waker_for (who (names_in q)) f))) (sym is) ∙ waits-names q n f none agree.1
 ] agree.0
@@ -63,7 +63,7 @@ waits-names ((Owes, l) ∷ q) n f none agree = absurd none
 
 lack-names : (q : Queue) (n f d l : ℕ) → HasNoDebt q → Agrees q n f → waiting q n ≡ Some (d, l) → lack_for (names_in q) f ≡ l
 lack-names [] n f d l none agree is = absurd (cc)
-lack-names ((Acquires m e k, j) ∷ q) n f d l none agree is = elim (m == n) as (λ b. b ≡ (k.future == f) → cond b (Some (e, j)) (waiting q n) ≡ Some (d, l) → cond (k.future == f) j (lack_for (names_in q) f) ≡ l) [
+lack-names ((Acquires m e k, j) ∷ q) n f d l none agree is = elim (m == n) as (λ b. b ≡ (k.name == f) → cond b (Some (e, j)) (waiting q n) ≡ Some (d, l) → cond (k.name == f) j (lack_for (names_in q) f) ≡ l) [
   | true ↦ λ same is. ap (λ b. cond b j (lack_for (names_in q) f)) (sym same) ∙ (let both : ◌≡◌ {A = ℕ × ℕ} (e, j) (d, l) = cc in ap (λ (p : ℕ × ℕ). p.1) both)
   | false ↦ λ same is. ap (λ b. cond b j (lack_for (names_in q) f)) (sym same) ∙ lack-names q n f d l none agree.1 is
 ] agree.0 is
@@ -72,29 +72,29 @@ lack-names ((Owes, j) ∷ q) n f d l none agree is = absurd none
 unqueued-names : (acquires : Names Acquire) (q : Queue) (f : ℕ) → HasNoDebt q → AreOf acquires q → IsUnqueued (get acquires f) → waits (who (names_in q)) f ≡ false
 unqueued-names acquires [] f none are out = refl
 unqueued-names acquires ((Acquires m d k, l) ∷ q) f none are out =
-    ap (λ b. is_some (cond b (Some k.waker) (waker_for (who (names_in q)) f))) (ne_eqb k.future f (λ same. unqueued_differs (get acquires f) (get acquires k.future) d m (ap (get acquires) (sym same)) out are.0))
+    ap (λ b. is_some (cond b (Some k.waker) (waker_for (who (names_in q)) f))) (ne_eqb k.name f (λ same. unqueued_differs (get acquires f) (get acquires k.name) d m (ap (get acquires) (sym same)) out are.0))
     ∙ unqueued-names acquires q f none are.1 out
 unqueued-names acquires ((Owes, l) ∷ q) f none are out = absurd none
 
-with-names : (q : Queue) (n f : ℕ) (v : NamedWaker) → v.future ≡ f → HasNoDebt q → Agrees q n f → names_in (with_waker q n v) ≡ rewoken (names_in q) f v.waker
+with-names : (q : Queue) (n f : ℕ) (v : NamedWaker) → v.name ≡ f → HasNoDebt q → Agrees q n f → names_in (with_waker q n v) ≡ rewoken (names_in q) f v.waker
 with-names [] n f v mine none agree = refl
 with-names ((Acquires m d k, l) ∷ q) n f v mine none agree = elim (m == n)
-    as (λ b. b ≡ (k.future == f) → (((cond b v k).future, (cond b v k).waker), l) ∷ names_in (with_waker q n v) ≡ ((k.future, cond (k.future == f) v.waker k.waker), l) ∷ rewoken (names_in q) f v.waker) [
-      | true ↦ λ is i. (((mine ∙ sym (eqb-true k.future f (sym is))) i, ap (λ b. cond b v.waker k.waker) is i), l) ∷ with-names q n f v mine none agree.1 i
-      | false ↦ λ is i. ((k.future, ap (λ b. cond b v.waker k.waker) is i), l) ∷ with-names q n f v mine none agree.1 i
+    as (λ b. b ≡ (k.name == f) → (((cond b v k).name, (cond b v k).waker), l) ∷ names_in (with_waker q n v) ≡ ((k.name, cond (k.name == f) v.waker k.waker), l) ∷ rewoken (names_in q) f v.waker) [
+      | true ↦ λ is i. (((mine ∙ sym (eqb-true k.name f (sym is))) i, ap (λ b. cond b v.waker k.waker) is i), l) ∷ with-names q n f v mine none agree.1 i
+      | false ↦ λ is i. ((k.name, ap (λ b. cond b v.waker k.waker) is i), l) ∷ with-names q n f v mine none agree.1 i
     ] agree.0
 with-names ((Owes, l) ∷ q) n f v mine none agree = absurd none
 
 without-names : (q : Queue) (n f : ℕ) → HasNoDebt q → Agrees q n f → names_in (without_acquire q n) ≡ leaving (names_in q) f
 without-names [] n f none agree = refl
 without-names ((Acquires m d k, l) ∷ q) n f none agree = elim (m == n)
-    as (λ b. b ≡ (k.future == f) → names_in (cond b (without_acquire q n) ((Acquires m d k, l) ∷ without_acquire q n)) ≡ cond (k.future == f) (leaving (names_in q) f) (((k.future, k.waker), l) ∷ leaving (names_in q) f)) [
-      | true ↦ λ is. without-names q n f none agree.1 ∙ ap (λ b. cond b (leaving (names_in q) f) (((k.future, k.waker), l) ∷ leaving (names_in q) f)) is
-      | false ↦ λ is. ap (λ ws. ((k.future, k.waker), l) ∷ ws) (without-names q n f none agree.1) ∙ ap (λ b. cond b (leaving (names_in q) f) (((k.future, k.waker), l) ∷ leaving (names_in q) f)) is
+    as (λ b. b ≡ (k.name == f) → names_in (cond b (without_acquire q n) ((Acquires m d k, l) ∷ without_acquire q n)) ≡ cond (k.name == f) (leaving (names_in q) f) (((k.name, k.waker), l) ∷ leaving (names_in q) f)) [
+      | true ↦ λ is. without-names q n f none agree.1 ∙ ap (λ b. cond b (leaving (names_in q) f) (((k.name, k.waker), l) ∷ leaving (names_in q) f)) is
+      | false ↦ λ is. ap (λ ws. ((k.name, k.waker), l) ∷ ws) (without-names q n f none agree.1) ∙ ap (λ b. cond b (leaving (names_in q) f) (((k.name, k.waker), l) ∷ leaving (names_in q) f)) is
     ] agree.0
 without-names ((Owes, l) ∷ q) n f none agree = absurd none
 
-pub push-names : (q : Queue) (n d l : ℕ) (k : NamedWaker) → names_in (q ++ (Acquires n d k, l) ∷ []) ≡ names_in q ++ ((k.future, k.waker), l) ∷ []
+pub push-names : (q : Queue) (n d l : ℕ) (k : NamedWaker) → names_in (q ++ (Acquires n d k, l) ∷ []) ≡ names_in q ++ ((k.name, k.waker), l) ∷ []
 push-names [] n d l k = refl
 push-names (e ∷ q) n d l k = ap (λ ws. (who_of e.0, e.1) ∷ ws) (push-names q n d l k)
 
@@ -102,37 +102,37 @@ push-names (e ∷ q) n d l k = ap (λ ws. (who_of e.0, e.1) ∷ ws) (push-names 
 -- whose acquires wait, where the acquires of others changed
 are-still : (acquires others : Names Acquire) (q : Queue) → ((g d n : ℕ) → get acquires g ≡ Some (Queued d n) → get others g ≡ Some (Queued d n)) → AreOf acquires q → AreOf others q
 are-still acquires others [] keep are = tt
-are-still acquires others ((Acquires m d k, l) ∷ q) keep are = (keep k.future d m are.0, are-still acquires others q keep are.1)
+are-still acquires others ((Acquires m d k, l) ∷ q) keep are = (keep k.name d m are.0, are-still acquires others q keep are.1)
 are-still acquires others ((Owes, l) ∷ q) keep are = are-still acquires others q keep are
 
 are-without : (acquires : Names Acquire) (q : Queue) (n f : ℕ) → Agrees q n f → AreOf acquires q → AreOf (remove acquires f) (without_acquire q n)
 are-without acquires [] n f agree are = tt
 are-without acquires ((Acquires m d k, l) ∷ q) n f agree are = elim (m == n)
-    as (λ b. b ≡ (k.future == f) → AreOf (remove acquires f) (cond b (without_acquire q n) ((Acquires m d k, l) ∷ without_acquire q n))) [
+    as (λ b. b ≡ (k.name == f) → AreOf (remove acquires f) (cond b (without_acquire q n) ((Acquires m d k, l) ∷ without_acquire q n))) [
       | true ↦ λ is. are-without acquires q n f agree.1 are.1
-      | false ↦ λ is. (get-removed_other acquires f k.future (λ same. eqb-false k.future f (sym is) (sym same)) ∙ are.0, are-without acquires q n f agree.1 are.1)
+      | false ↦ λ is. (get-removed_other acquires f k.name (λ same. eqb-false k.name f (sym is) (sym same)) ∙ are.0, are-without acquires q n f agree.1 are.1)
     ] agree.0
 are-without acquires ((Owes, l) ∷ q) n f agree are = are-without acquires q n f agree are
 
 are-gone : (acquires : Names Acquire) (q : Queue) (n f : ℕ) → Agrees q n f → waiting q n ≡ None → AreOf acquires q → AreOf (remove acquires f) q
 are-gone acquires [] n f agree none are = tt
 are-gone acquires ((Acquires m d k, l) ∷ q) n f agree none are = elim (m == n)
-    as (λ b. b ≡ (k.future == f) → cond b (Some (d, l)) (waiting q n) ≡ None → (get (remove acquires f) k.future ≡ Some (Queued d m)) × AreOf (remove acquires f) q) [
+    as (λ b. b ≡ (k.name == f) → cond b (Some (d, l)) (waiting q n) ≡ None → (get (remove acquires f) k.name ≡ Some (Queued d m)) × AreOf (remove acquires f) q) [
       | true ↦ λ is none. absurd (cc)
-      | false ↦ λ is none. (get-removed_other acquires f k.future (λ same. eqb-false k.future f (sym is) (sym same)) ∙ are.0, are-gone acquires q n f agree.1 none are.1)
+      | false ↦ λ is none. (get-removed_other acquires f k.name (λ same. eqb-false k.name f (sym is) (sym same)) ∙ are.0, are-gone acquires q n f agree.1 none are.1)
     ] agree.0 none
 are-gone acquires ((Owes, l) ∷ q) n f agree none are = are-gone acquires q n f agree none are
 
-are-with : (acquires : Names Acquire) (q : Queue) (n f : ℕ) (v : NamedWaker) → v.future ≡ f → Agrees q n f → AreOf acquires q → AreOf acquires (with_waker q n v)
+are-with : (acquires : Names Acquire) (q : Queue) (n f : ℕ) (v : NamedWaker) → v.name ≡ f → Agrees q n f → AreOf acquires q → AreOf acquires (with_waker q n v)
 are-with acquires [] n f v mine agree are = tt
 are-with acquires ((Acquires m d k, l) ∷ q) n f v mine agree are = elim (m == n)
-    as (λ b. b ≡ (k.future == f) → (get acquires (cond b v k).future ≡ Some (Queued d m)) × AreOf acquires (with_waker q n v)) [
-      | true ↦ λ is. (ap (get acquires) (mine ∙ sym (eqb-true k.future f (sym is))) ∙ are.0, are-with acquires q n f v mine agree.1 are.1)
+    as (λ b. b ≡ (k.name == f) → (get acquires (cond b v k).name ≡ Some (Queued d m)) × AreOf acquires (with_waker q n v)) [
+      | true ↦ λ is. (ap (get acquires) (mine ∙ sym (eqb-true k.name f (sym is))) ∙ are.0, are-with acquires q n f v mine agree.1 are.1)
       | false ↦ λ is. (are.0, are-with acquires q n f v mine agree.1 are.1)
     ] agree.0
 are-with acquires ((Owes, l) ∷ q) n f v mine agree are = are-with acquires q n f v mine agree are
 
-are-push : (acquires : Names Acquire) (q : Queue) (n d l : ℕ) (k : NamedWaker) → AreOf acquires q → get acquires k.future ≡ Some (Queued d n) → AreOf acquires (q ++ (Acquires n d k, l) ∷ [])
+are-push : (acquires : Names Acquire) (q : Queue) (n d l : ℕ) (k : NamedWaker) → AreOf acquires q → get acquires k.name ≡ Some (Queued d n) → AreOf acquires (q ++ (Acquires n d k, l) ∷ [])
 are-push acquires [] n d l k are is = (is, tt)
 are-push acquires ((Acquires m e v, j) ∷ q) n d l k are is = (are.0, are-push acquires q n d l k are.1 is)
 are-push acquires ((Owes, j) ∷ q) n d l k are is = are-push acquires q n d l k are is
@@ -174,7 +174,7 @@ module _ (q : Queue) (granted : FinMap nat_cmp ℕ) (acquires : Names Acquire) (
         }
 
     -- it goes to the end of the queue, under a fresh number
-    pub linked_pushed : (n d l : ℕ) (k : NamedWaker) → k.future ≡ f → waiting q n ≡ None → get granted n ≡ None → Linked (q ++ (Acquires n d k, l) ∷ []) granted (insert acquires f (Queued d n))
+    pub linked_pushed : (n d l : ℕ) (k : NamedWaker) → k.name ≡ f → waiting q n ≡ None → get granted n ≡ None → Linked (q ++ (Acquires n d k, l) ∷ []) granted (insert acquires f (Queued d n))
     linked_pushed n d l k mine no_wait no_grant =
         let fresh = λ (g e : ℕ) (is : get acquires g ≡ Some (Queued e n)). elim (linked.home g (Queued e n) is) as (λ h. ⊥) [
           | inl held ↦ absurd (cc)
@@ -207,7 +207,7 @@ module _ (q : Queue) (granted : FinMap nat_cmp ℕ) (acquires : Names Acquire) (
     pub queued_lacks : (e l : ℕ) → HasNoDebt q → waiting q n ≡ Some (e, l) → lack_for (names_in q) f ≡ l
     queued_lacks e l none is = lack-names q n f e l none agreed is
 
-    pub queued_with : (v : NamedWaker) → v.future ≡ f → HasNoDebt q → names_in (with_waker q n v) ≡ rewoken (names_in q) f v.waker
+    pub queued_with : (v : NamedWaker) → v.name ≡ f → HasNoDebt q → names_in (with_waker q n v) ≡ rewoken (names_in q) f v.waker
     queued_with v mine none = with-names q n f v mine none agreed
 
     pub queued_without : HasNoDebt q → names_in (without_acquire q n) ≡ leaving (names_in q) f
@@ -225,7 +225,7 @@ module _ (q : Queue) (granted : FinMap nat_cmp ℕ) (acquires : Names Acquire) (
     others_apart g j e i m is also = linked.apart g j e i m (removed_there acquires f g _ is) (removed_there acquires f j _ also)
 
     -- it waits on with another waker
-    pub linked_again : (v : NamedWaker) → v.future ≡ f → Linked (with_waker q n v) granted acquires
+    pub linked_again : (v : NamedWaker) → v.name ≡ f → Linked (with_waker q n v) granted acquires
     linked_again v mine = record {
       waits = are-with acquires q n f v mine agreed linked.waits;
       home = λ g a is. home-still q (with_waker q n v) granted granted a (λ e m same home. elim home [

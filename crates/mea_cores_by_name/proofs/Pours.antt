@@ -19,7 +19,7 @@ abbrev Queue : Type 0
 Queue = List (Waiter NamedWaker × ℕ)
 
 -- ---- one in the middle of a queue
-are-mid : (acquires : Names Acquire) (p : Queue) (n d l : ℕ) (k : NamedWaker) (q : Queue) → AreOf acquires (p ++ (Acquires n d k, l) ∷ q) → (get acquires k.future ≡ Some (Queued d n)) × AreOf acquires (p ++ q)
+are-mid : (acquires : Names Acquire) (p : Queue) (n d l : ℕ) (k : NamedWaker) (q : Queue) → AreOf acquires (p ++ (Acquires n d k, l) ∷ q) → (get acquires k.name ≡ Some (Queued d n)) × AreOf acquires (p ++ q)
 are-mid acquires [] n d l k q are = are
 are-mid acquires ((Acquires m e v, j) ∷ p) n d l k q are = let rest = are-mid acquires p n d l k q are.1 in (rest.0, (are.0, rest.1))
 are-mid acquires ((Owes, j) ∷ p) n d l k q are = are-mid acquires p n d l k q are
@@ -87,7 +87,7 @@ module _ (acquires : Names Acquire) where
         home = λ f a is. home-still (p ++ (Acquires n d k, l) ∷ q) (p ++ q) g (insert g n d) a (λ e m same home.
             by_name {Z = IsHome (p ++ q) (insert g n d) (Queued e m)} n m
             (λ one.
-            let owner = linked.apart k.future f d e n mine.0 (is ∙ ap (λ b. Some b) same ∙ ap (λ j. Some (Queued e j)) (sym one)) in
+            let owner = linked.apart k.name f d e n mine.0 (is ∙ ap (λ b. Some b) same ∙ ap (λ j. Some (Queued e j)) (sym one)) in
             let alike : d ≡ e = (let both : get acquires f ≡ Some (Queued d n) = ap (get acquires) (sym owner) ∙ mine.0 in let also = is ∙ ap (λ b. Some b) same in cc) in
             inl (ap (get (insert g n d)) (sym one) ∙ get-there g n d ∙ ap (λ j. Some j) alike))
             (λ differs. elim home [
@@ -95,7 +95,7 @@ module _ (acquires : Names Acquire) where
               | inr waits ↦ inr (waits.0, sym (waiting-mid p n d l k q m differs) ∙ waits.1)
             ])) (linked.home f a is);
         owned = by_put g n d (λ m o. (e : ℕ) → o ≡ Some e → (f : ℕ) × (get acquires f ≡ Some (Queued e m)))
-            (λ e is. (k.future, mine.0 ∙ ap (λ j. Some (Queued j n)) (let same : d ≡ e = cc in same)))
+            (λ e is. (k.name, mine.0 ∙ ap (λ j. Some (Queued j n)) (let same : d ≡ e = cc in same)))
             (λ m differs e is. linked.owned m e is);
         apart = linked.apart;
       }

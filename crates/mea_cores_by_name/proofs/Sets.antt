@@ -15,59 +15,59 @@ use Rattle.mea_by_name.specs.NamedQueue.{registering, wakers}
 use Rattle.mea_cores_by_name.specs.SetLinked.{names_of, set_names, SlotIs, SetLinked, StandsAt, IsAbsent, AreBelow}
 
 -- its waker is replaced where its number says
-pub set_there : (ks : List NamedWaker) (i r f w : ℕ) → StandsAt i ks (i + r) f → r < length ks → names_of (slice_set ks r (record { future = f; waker = w })) ≡ registering (names_of ks) f w
+pub set_there : (ks : List NamedWaker) (i r f w : ℕ) → StandsAt i ks (i + r) f → r < length ks → names_of (slice_set ks r (record { name = f; waker = w })) ≡ registering (names_of ks) f w
 set_there [] i r f w stands less = absurd (omega arith)
 set_there (k ∷ ks) i zero f w stands less =
-    let here : (k.future == f) ≡ true = sym stands.0 ∙ eq-eqb i (i + 0) (omega arith) in
-    rw here (λ j. (sym (eqb-true k.future f here) j, w) ∷ names_of ks)
+    let here : (k.name == f) ≡ true = sym stands.0 ∙ eq-eqb i (i + 0) (omega arith) in
+    rw here (λ j. (sym (eqb-true k.name f here) j, w) ∷ names_of ks)
 set_there (k ∷ ks) i (suc r) f w stands less =
-    let apart : (k.future == f) ≡ false = sym stands.0 ∙ ne_eqb i (i + suc r) (λ same. absurd (omega arith)) in
-    rw apart (ap (λ q. (k.future, k.waker) ∷ q) (set_there ks (i + 1) r f w (rw (let e : i + suc r ≡ i + 1 + r = omega arith in e) at stands.1) (omega arith)))
+    let apart : (k.name == f) ≡ false = sym stands.0 ∙ ne_eqb i (i + suc r) (λ same. absurd (omega arith)) in
+    rw apart (ap (λ q. (k.name, k.waker) ∷ q) (set_there ks (i + 1) r f w (rw (let e : i + suc r ≡ i + 1 + r = omega arith in e) at stands.1) (omega arith)))
 
 -- where it is not, it comes last
-pub set_last : (ks : List NamedWaker) (f w : ℕ) → IsAbsent ks f → names_of (ks ++ (record { future = f; waker = w }) ∷ []) ≡ registering (names_of ks) f w
+pub set_last : (ks : List NamedWaker) (f w : ℕ) → IsAbsent ks f → names_of (ks ++ (record { name = f; waker = w }) ∷ []) ≡ registering (names_of ks) f w
 set_last [] f w absent = refl
-set_last (k ∷ ks) f w absent = rw absent.0 (ap (λ q. (k.future, k.waker) ∷ q) (set_last ks f w absent.1))
+set_last (k ∷ ks) f w absent = rw absent.0 (ap (λ q. (k.name, k.waker) ∷ q) (set_last ks f w absent.1))
 
 -- ---- another's place, where the waker at a place changed and its name did not
 module _ (f w j g : ℕ) where
-  pub stands_set : (ks : List NamedWaker) (i r : ℕ) → StandsAt i ks (i + r) f → r < length ks → StandsAt i ks j g → StandsAt i (slice_set ks r (record { future = f; waker = w })) j g
+  pub stands_set : (ks : List NamedWaker) (i r : ℕ) → StandsAt i ks (i + r) f → r < length ks → StandsAt i ks j g → StandsAt i (slice_set ks r (record { name = f; waker = w })) j g
   stands_set [] i r mine less stands = absurd (omega arith)
   stands_set (k ∷ ks) i zero mine less stands =
-      let here : (k.future == f) ≡ true = sym mine.0 ∙ eq-eqb i (i + 0) (omega arith) in
-      (stands.0 ∙ ap (λ n. n == g) (eqb-true k.future f here), stands.1)
+      let here : (k.name == f) ≡ true = sym mine.0 ∙ eq-eqb i (i + 0) (omega arith) in
+      (stands.0 ∙ ap (λ n. n == g) (eqb-true k.name f here), stands.1)
   stands_set (k ∷ ks) i (suc r) mine less stands = (stands.0, stands_set ks (i + 1) r (rw (let e : i + suc r ≡ i + 1 + r = omega arith in e) at mine.1) (omega arith) stands.1)
 
-  pub absent_set : (ks : List NamedWaker) (i r : ℕ) → StandsAt i ks (i + r) f → r < length ks → IsAbsent ks g → IsAbsent (slice_set ks r (record { future = f; waker = w })) g
+  pub absent_set : (ks : List NamedWaker) (i r : ℕ) → StandsAt i ks (i + r) f → r < length ks → IsAbsent ks g → IsAbsent (slice_set ks r (record { name = f; waker = w })) g
   absent_set [] i r mine less absent = absurd (omega arith)
   absent_set (k ∷ ks) i zero mine less absent =
-      let here : (k.future == f) ≡ true = sym mine.0 ∙ eq-eqb i (i + 0) (omega arith) in
-      (ap (λ n. n == g) (sym (eqb-true k.future f here)) ∙ absent.0, absent.1)
+      let here : (k.name == f) ≡ true = sym mine.0 ∙ eq-eqb i (i + 0) (omega arith) in
+      (ap (λ n. n == g) (sym (eqb-true k.name f here)) ∙ absent.0, absent.1)
   absent_set (k ∷ ks) i (suc r) mine less absent = (absent.0, absent_set ks (i + 1) r (rw (let e : i + suc r ≡ i + 1 + r = omega arith in e) at mine.1) (omega arith) absent.1)
 
 -- ---- where one more came last
-pub stands_push : (ks : List NamedWaker) (k : NamedWaker) (i j g : ℕ) → j < i + length ks → (k.future == g) ≡ false → StandsAt i ks j g → StandsAt i (ks ++ k ∷ []) j g
+pub stands_push : (ks : List NamedWaker) (k : NamedWaker) (i j g : ℕ) → j < i + length ks → (k.name == g) ≡ false → StandsAt i ks j g → StandsAt i (ks ++ k ∷ []) j g
 stands_push [] k i j g less other stands = (ne_eqb i j (λ same. absurd (omega arith)) ∙ sym other, tt)
 stands_push (v ∷ ks) k i j g less other stands = (stands.0, stands_push ks k (i + 1) j g (omega arith) other stands.1)
 
-pub stands_last : (ks : List NamedWaker) (k : NamedWaker) (i j f : ℕ) → j ≡ i + length ks → k.future ≡ f → IsAbsent ks f → StandsAt i (ks ++ k ∷ []) j f
-stands_last [] k i j f is mine absent = (eq-eqb i j (omega arith) ∙ sym (eq-eqb k.future f mine), tt)
+pub stands_last : (ks : List NamedWaker) (k : NamedWaker) (i j f : ℕ) → j ≡ i + length ks → k.name ≡ f → IsAbsent ks f → StandsAt i (ks ++ k ∷ []) j f
+stands_last [] k i j f is mine absent = (eq-eqb i j (omega arith) ∙ sym (eq-eqb k.name f mine), tt)
 stands_last (v ∷ ks) k i j f is mine absent = (ne_eqb i j (λ same. absurd (omega arith)) ∙ sym absent.0, stands_last ks k (i + 1) j f (omega arith) mine absent.1)
 
-pub absent_push : (ks : List NamedWaker) (k : NamedWaker) (g : ℕ) → (k.future == g) ≡ false → IsAbsent ks g → IsAbsent (ks ++ k ∷ []) g
+pub absent_push : (ks : List NamedWaker) (k : NamedWaker) (g : ℕ) → (k.name == g) ≡ false → IsAbsent ks g → IsAbsent (ks ++ k ∷ []) g
 absent_push [] k g other absent = (other, tt)
 absent_push (v ∷ ks) k g other absent = (absent.0, absent_push ks k g other absent.1)
 
 -- ---- names
 pub below_absent : (ks : List NamedWaker) (n f : ℕ) → AreBelow ks n → n ≤ f → IsAbsent ks f
 below_absent [] n f below later = tt
-below_absent (k ∷ ks) n f below later = (ne_eqb k.future f (λ same. absurd (let low = below.0 in omega arith)), below_absent ks n f below.1 later)
+below_absent (k ∷ ks) n f below later = (ne_eqb k.name f (λ same. absurd (let low = below.0 in omega arith)), below_absent ks n f below.1 later)
 
-pub below_push : (ks : List NamedWaker) (k : NamedWaker) (n : ℕ) → k.future < n → AreBelow ks n → AreBelow (ks ++ k ∷ []) n
+pub below_push : (ks : List NamedWaker) (k : NamedWaker) (n : ℕ) → k.name < n → AreBelow ks n → AreBelow (ks ++ k ∷ []) n
 below_push [] k n low below = (low, tt)
 below_push (v ∷ ks) k n low below = (below.0, below_push ks k n low below.1)
 
-pub below_set : (ks : List NamedWaker) (r n : ℕ) (k : NamedWaker) → k.future < n → AreBelow ks n → AreBelow (slice_set ks r k) n
+pub below_set : (ks : List NamedWaker) (r n : ℕ) (k : NamedWaker) → k.name < n → AreBelow ks n → AreBelow (slice_set ks r k) n
 below_set [] r n k low below = tt
 below_set (v ∷ ks) zero n k low below = (low, below.1)
 below_set (v ∷ ks) (suc r) n k low below = (below.0, below_set ks r n k low below.1)
@@ -104,7 +104,7 @@ fresh_stands s k = let more = length-append s.wakers (k ∷ []) in (rw more (by_
 
 module _ (s : Registered NamedWaker) (slots : Names (Option Place)) (n f w : ℕ) (slot : Option Place) (linked : SetLinked s slots n) (there : get slots f ≡ Some slot) where
   abbrev waker : NamedWaker
-  waker = record { future = f; waker = w }
+  waker = record { name = f; waker = w }
 
   its : SlotIs s f slot
   its = (linked.each f slot there).1

@@ -11,7 +11,7 @@ use Rattle.mea_sem_core.specs.Core.{Waiter, Acquires, Owes, waiting}
 
 -- whom a waker names, with the waker that the hall was given; a debt has none
 abbrev pub who_of : Waiter NamedWaker → ℕ × ℕ
-who_of (Acquires n d k) = (k.future, k.waker)
+who_of (Acquires n d k) = (k.name, k.waker)
 who_of Owes = (0, 0)
 
 -- who waits, as the wakers in a core's queue name it, each with what it lacks
@@ -21,7 +21,7 @@ names_in q = map (λ (e : Waiter NamedWaker × ℕ). (who_of e.0, e.1)) q
 -- each acquire that waits is that of the future which its waker names
 abbrev pub AreOf : Names Acquire → List (Waiter NamedWaker × ℕ) → Type 0
 AreOf acquires [] = Unit {0}
-AreOf acquires ((Acquires n d k, l) ∷ q) = (get acquires k.future ≡ Some (Queued d n)) × AreOf acquires q
+AreOf acquires ((Acquires n d k, l) ∷ q) = (get acquires k.name ≡ Some (Queued d n)) × AreOf acquires q
 AreOf acquires ((Owes, l) ∷ q) = AreOf acquires q
 
 -- an acquire is new, or was granted, or waits; none was refused

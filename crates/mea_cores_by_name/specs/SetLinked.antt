@@ -10,7 +10,7 @@ use Rattle.mea_sets.specs.WaitSet.{Registered, is_registered, has_given, index_o
 -- wakers, each with the name of who waits
 abbrev pub names_of : List NamedWaker → Waiting
 names_of [] = []
-names_of (k ∷ ks) = (k.future, k.waker) ∷ names_of ks
+names_of (k ∷ ks) = (k.name, k.waker) ∷ names_of ks
 
 -- who is registered, in order. The name of a future that has ended stays
 abbrev pub set_names : Registered NamedWaker → Waiting
@@ -19,17 +19,17 @@ set_names s = names_of s.wakers
 -- from place i on, f stands at one place alone
 abbrev pub StandsAt : ℕ → List NamedWaker → ℕ → ℕ → Type 0
 StandsAt i [] j f = Unit {0}
-StandsAt i (k ∷ ks) j f = ((i == j) ≡ (k.future == f)) × StandsAt (i + 1) ks j f
+StandsAt i (k ∷ ks) j f = ((i == j) ≡ (k.name == f)) × StandsAt (i + 1) ks j f
 
 -- f stands at none of them
 abbrev pub IsAbsent : List NamedWaker → ℕ → Type 0
 IsAbsent [] f = Unit {0}
-IsAbsent (k ∷ ks) f = ((k.future == f) ≡ false) × IsAbsent ks f
+IsAbsent (k ∷ ks) f = ((k.name == f) ≡ false) × IsAbsent ks f
 
 -- each name is below n
 abbrev pub AreBelow : List NamedWaker → ℕ → Type 0
 AreBelow [] n = Unit {0}
-AreBelow (k ∷ ks) n = (k.future < n) × AreBelow ks n
+AreBelow (k ∷ ks) n = (k.name < n) × AreBelow ks n
 
 -- a future's slot is one that the set gave, and shows where its name stands
 pub record SlotIs (s : Registered NamedWaker) (f : ℕ) (slot : Option Place) : Type 0 where

@@ -20,6 +20,6 @@ pub fn a_pour_keeps_links()
 
 /// A future that registers a waker replaces its own or comes last, by name as by number.
 pub fn a_registration_keeps_links()
-    ensures links { (s : Registered NamedWaker) (slots : Names (Option Place)) (n f w : ℕ) (slot : Option Place) → SetLinked s slots n → get slots f ≡ Some slot → SetLinked (with_waker s slot (record { future = f; waker = w })) (insert slots f (slot_after s slot)) n }
-    ensures names { (s : Registered NamedWaker) (slots : Names (Option Place)) (n f w : ℕ) (slot : Option Place) → SetLinked s slots n → get slots f ≡ Some slot → set_names (with_waker s slot (record { future = f; waker = w })) ≡ registering (set_names s) f w }
+    ensures links { (s : Registered NamedWaker) (slots : Names (Option Place)) (n f w : ℕ) (slot : Option Place) → SetLinked s slots n → get slots f ≡ Some slot → SetLinked (with_waker s slot (record { name = f; waker = w })) (insert slots f (slot_after s slot)) n }
+    ensures names { (s : Registered NamedWaker) (slots : Names (Option Place)) (n f w : ℕ) (slot : Option Place) → SetLinked s slots n → get slots f ≡ Some slot → set_names (with_waker s slot (record { name = f; waker = w })) ≡ registering (set_names s) f w }
 {}

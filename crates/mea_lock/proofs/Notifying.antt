@@ -8,10 +8,10 @@ use Rattle.mea_lock.specs.CondEntries.{wakers_in, NotifiesFirst}
 
 -- the waker of the first was made ready
 pub popped : (s s1 s2 : Condvar NamedWaker) (k : NamedWaker) (n : ℕ) (before after : Waking ℕ) → s.wakes ≡ [] → s1 ≡ notified_one s → s1 ≡ record s2 { wakes = k ∷ s2.wakes }
-    → after ≡ record { wakers = before.wakers ++ k.waker ∷ []; registered = before.registered - 1 } → NotifiesFirst (record { condvar = s; waits = n }) k.future (record { condvar = s2; waits = n }) before after
+    → after ≡ record { wakers = before.wakers ++ k.waker ∷ []; registered = before.registered - 1 } → NotifiesFirst (record { condvar = s; waits = n }) k.name (record { condvar = s2; waits = n }) before after
 popped s s1 s2 k n before after quiet told taken ready = at s.waiting refl
   where
-    at : (q : List (ℕ × NamedWaker)) → s.waiting ≡ q → NotifiesFirst (record { condvar = s; waits = n }) k.future (record { condvar = s2; waits = n }) before after
+    at : (q : List (ℕ × NamedWaker)) → s.waiting ≡ q → NotifiesFirst (record { condvar = s; waits = n }) k.name (record { condvar = s2; waits = n }) before after
     at [] is = absurd (
         let none : s1.wakes ≡ [] = ap (λ (s : Condvar NamedWaker). s.wakes) (told ∙ ap (λ q. first_notified true q s) is) ∙ quiet in
         let some : s1.wakes ≡ k ∷ s2.wakes = ap (λ (s : Condvar NamedWaker). s.wakes) taken in

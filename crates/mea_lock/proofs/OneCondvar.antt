@@ -20,54 +20,54 @@ Listed = ℕ × NamedWaker
 
 -- the wait that a waker names has its number
 abbrev IsOf : Names WaitEntry → Listed → Type 0
-IsOf ws e = (x : WaitEntry) × (get ws e.1.future ≡ Some x) × (x.number ≡ Some e.0)
+IsOf ws e = (x : WaitEntry) × (get ws e.1.name ≡ Some x) × (x.number ≡ Some e.0)
 
 -- ---- who waits, by number and by name
 -- one that is not listed does not wait
 pub unlisted_apart : (ws : Names WaitEntry) (f : ℕ) (q : List Listed) → AreOf ws q → ((x : WaitEntry) → get ws f ≡ Some x → x.number ≡ None) → waits (listed_in q) f ≡ false
 unlisted_apart ws f [] are none = refl
 unlisted_apart ws f (e ∷ q) are none =
-    ap (λ b. is_some (cond b (Some e.1.waker) (named.waker_for (listed_in q) f))) (ne_eqb e.1.future f (λ same. absurd (
+    ap (λ b. is_some (cond b (Some e.1.waker) (named.waker_for (listed_in q) f))) (ne_eqb e.1.name f (λ same. absurd (
     let unlisted : are.0.0.number ≡ None = none are.0.0 (ap (get ws) (sym same) ∙ are.0.1) in
     let listed = are.0.2 in
     cc)))
     ∙ unlisted_apart ws f q are.1 none
 
 module _ (ws : Names WaitEntry) (apart : NumbersApart ws) (f n : ℕ) (x : WaitEntry) (there : get ws f ≡ Some x) (number : x.number ≡ Some n) where
-  same_test : (e : Listed) → IsOf ws e → (e.0 == n) ≡ (e.1.future == f)
+  same_test : (e : Listed) → IsOf ws e → (e.0 == n) ≡ (e.1.name == f)
   same_test e is = elim (cases_eq e.0 n) [
-    | inl same ↦ eq-eqb e.0 n same ∙ sym (eq-eqb e.1.future f (apart e.1.future f is.0 x n is.1 there (is.2 ∙ ap (λ m. Some m) same) number))
-    | inr differs ↦ ne_eqb e.0 n differs ∙ sym (ne_eqb e.1.future f (λ alike.
+    | inl same ↦ eq-eqb e.0 n same ∙ sym (eq-eqb e.1.name f (apart e.1.name f is.0 x n is.1 there (is.2 ∙ ap (λ m. Some m) same) number))
+    | inr differs ↦ ne_eqb e.0 n differs ∙ sym (ne_eqb e.1.name f (λ alike.
         differs (inside (sym is.2 ∙ ap (λ (y : WaitEntry). y.number) (inside (sym is.1 ∙ ap (get ws) alike ∙ there)) ∙ number))))
   ]
 
-  pub listed_with : (w : ℕ) (q : List Listed) → AreOf ws q → listed_in (with_waker q n (record { future = f; waker = w })) ≡ named.with_waker (listed_in q) f w
+  pub listed_with : (w : ℕ) (q : List Listed) → AreOf ws q → listed_in (with_waker q n (record { name = f; waker = w })) ≡ named.with_waker (listed_in q) f w
   listed_with w [] are = refl
-  listed_with w (e ∷ q) are = λ i. (ap at (same_test e are.0) ∙ one (e.1.future == f) refl) i ∷ listed_with w q are.1 i
+  listed_with w (e ∷ q) are = λ i. (ap at (same_test e are.0) ∙ one (e.1.name == f) refl) i ∷ listed_with w q are.1 i
     where
       at : Bool → ℕ × ℕ
-      at b = ((if b then record { future = f; waker = w } else e.1).future, (if b then record { future = f; waker = w } else e.1).waker)
+      at b = ((if b then record { name = f; waker = w } else e.1).name, (if b then record { name = f; waker = w } else e.1).waker)
 
-      one : (b : Bool) → (e.1.future == f) ≡ b → at b ≡ (e.1.future, cond b w e.1.waker)
-      one true is = ap (λ g. (g, w)) (sym (eqb-true e.1.future f is))
+      one : (b : Bool) → (e.1.name == f) ≡ b → at b ≡ (e.1.name, cond b w e.1.waker)
+      one true is = ap (λ g. (g, w)) (sym (eqb-true e.1.name f is))
       one false is = refl
 
   pub listed_without : (q : List Listed) → AreOf ws q → listed_in (without_wait q n) ≡ named.without (listed_in q) f
   listed_without [] are = refl
   listed_without (e ∷ q) are = ap (λ b. listed_in (if b then without_wait q n else e ∷ without_wait q n)) (same_test e are.0)
-      ∙ (elim (e.1.future == f) as (λ b. listed_in (if b then without_wait q n else e ∷ without_wait q n) ≡ cond b (named.without (listed_in q) f) ((e.1.future, e.1.waker) ∷ named.without (listed_in q) f))
-      [ true ↦ listed_without q are.1 | false ↦ ap (λ r. (e.1.future, e.1.waker) ∷ r) (listed_without q are.1) ])
+      ∙ (elim (e.1.name == f) as (λ b. listed_in (if b then without_wait q n else e ∷ without_wait q n) ≡ cond b (named.without (listed_in q) f) ((e.1.name, e.1.waker) ∷ named.without (listed_in q) f))
+      [ true ↦ listed_without q are.1 | false ↦ ap (λ r. (e.1.name, e.1.waker) ∷ r) (listed_without q are.1) ])
 
   pub listed_waits : (q : List Listed) → AreOf ws q → is_some (waker_under q n) ≡ waits (listed_in q) f
   listed_waits [] are = refl
   listed_waits (e ∷ q) are = ap (λ b. is_some (if b then Some e.1 else waker_under q n)) (same_test e are.0)
-      ∙ (elim (e.1.future == f) as (λ b. is_some (if b then Some e.1 else waker_under q n) ≡ is_some (cond b (Some e.1.waker) (named.waker_for (listed_in q) f))) [ true ↦ refl | false ↦ listed_waits q are.1 ])
+      ∙ (elim (e.1.name == f) as (λ b. is_some (if b then Some e.1 else waker_under q n) ≡ is_some (cond b (Some e.1.waker) (named.waker_for (listed_in q) f))) [ true ↦ refl | false ↦ listed_waits q are.1 ])
 
-  of_with : (w : ℕ) (q : List Listed) → AreOf ws q → AreOf ws (with_waker q n (record { future = f; waker = w }))
+  of_with : (w : ℕ) (q : List Listed) → AreOf ws q → AreOf ws (with_waker q n (record { name = f; waker = w }))
   of_with w [] are = tt
   of_with w (e ∷ q) are = (at (e.0 == n) refl, of_with w q are.1)
     where
-      at : (b : Bool) → (e.0 == n) ≡ b → IsOf ws (e.0, if b then record { future = f; waker = w } else e.1)
+      at : (b : Bool) → (e.0 == n) ≡ b → IsOf ws (e.0, if b then record { name = f; waker = w } else e.1)
       at true is = (x, there, number ∙ ap (λ m. Some m) (sym (eqb-true e.0 n is)))
       at false is = are.0
 
@@ -84,22 +84,22 @@ of_end ws (d ∷ q) e are is = (are.0, of_end ws q e are.1 is)
 of_changed : (ws ws' : Names WaitEntry) (f : ℕ) (q : List Listed) → AreOf ws q → waits (listed_in q) f ≡ false → ((g : ℕ) → (f ≡ g → ⊥) → get ws' g ≡ get ws g) → AreOf ws' q
 of_changed ws ws' f [] are idle others = tt
 of_changed ws ws' f (e ∷ q) are idle others =
-    elim (e.1.future == f) as (λ b. (e.1.future == f) ≡ b → is_some (cond b (Some e.1.waker) (named.waker_for (listed_in q) f)) ≡ false → AreOf ws' (e ∷ q)) [
+    elim (e.1.name == f) as (λ b. (e.1.name == f) ≡ b → is_some (cond b (Some e.1.waker) (named.waker_for (listed_in q) f)) ≡ false → AreOf ws' (e ∷ q)) [
       | true ↦ λ is none. absurd (cc)
-      | false ↦ λ is none. ((are.0.0, others e.1.future (λ same. eqb-false e.1.future f is (sym same)) ∙ are.0.1, are.0.2), of_changed ws ws' f q are.1 none others)
+      | false ↦ λ is none. ((are.0.0, others e.1.name (λ same. eqb-false e.1.name f is (sym same)) ∙ are.0.1, are.0.2), of_changed ws ws' f q are.1 none others)
     ] refl idle
 
 -- a wait is another of the same number
 of_over : (ws : Names WaitEntry) (f : ℕ) (x y : WaitEntry) (q : List Listed) → get ws f ≡ Some x → y.number ≡ x.number → AreOf ws q → AreOf (insert ws f y) q
 of_over ws f x y [] there alike are = tt
 of_over ws f x y (e ∷ q) there alike are = (
-  elim (cases_eq f e.1.future) [
+  elim (cases_eq f e.1.name) [
     | inl same ↦ (
       y,
       ap (get (insert ws f y)) (sym same) ∙ get-there ws f y,
       alike ∙ ap (λ (z : WaitEntry). z.number) (inside (sym there ∙ ap (get ws) same ∙ are.0.1)) ∙ are.0.2,
     )
-    | inr differs ↦ (are.0.0, get-other ws f e.1.future y differs ∙ are.0.1, are.0.2)
+    | inr differs ↦ (are.0.0, get-other ws f e.1.name y differs ∙ are.0.1, are.0.2)
   ],
   of_over ws f x y q there alike are.1,
 )
@@ -195,7 +195,7 @@ waits_of ws (e ∷ q) n are some = at (waits_of ws q n are.1) (e.0 == n) refl so
   where
     at : (IsSome (waker_under q n) → (f : ℕ) × (x : WaitEntry) × (get ws f ≡ Some x) × (x.number ≡ Some n)) → (b : Bool) → (e.0 == n) ≡ b → IsSome (if b then Some e.1 else waker_under q n)
         → (f : ℕ) × (x : WaitEntry) × (get ws f ≡ Some x) × (x.number ≡ Some n)
-    at behind true is had = (e.1.future, are.0.0, are.0.1, are.0.2 ∙ ap (λ m. Some m) (eqb-true e.0 n is))
+    at behind true is had = (e.1.name, are.0.0, are.0.1, are.0.2 ∙ ap (λ m. Some m) (eqb-true e.0 n is))
     at behind false is had = behind had
 
 -- a wait that was notified stays, where another changed
@@ -300,8 +300,8 @@ module _ (e : KeptCondvar) (ws : Names WaitEntry) (good : AreListed e ws) where
   }
 
   -- ---- the first that waits is notified alone
-  module _ (n w f : ℕ) (others : List Listed) (first : queue ≡ (n, record { future = f; waker = w }) ∷ others) where
-    first_are : IsOf ws (n, record { future = f; waker = w }) × AreOf ws others
+  module _ (n w f : ℕ) (others : List Listed) (first : queue ≡ (n, record { name = f; waker = w }) ∷ others) where
+    first_are : IsOf ws (n, record { name = f; waker = w }) × AreOf ws others
     first_are = subst (AreOf ws) first good.waits
 
     pub first_there : (x : WaitEntry) × (get ws f ≡ Some x) × (x.number ≡ Some n)
@@ -317,7 +317,7 @@ module _ (e : KeptCondvar) (ws : Names WaitEntry) (good : AreListed e ws) where
       notified = by_put e.condvar.notified n true (λ m o. (b : Bool) → o ≡ Some b → (waker_under others m ≡ None) × IsTold (insert ws f (record x { alone = true })) m b)
           (λ b is. ((subst (λ q. AreApart q) first good.distinct).0, (f, record x { alone = true }, get-there ws f (record x { alone = true }), mine, inside is)))
           (λ m differs b is. let had = good.notified m b is in (
-            sym (ap (λ t. if t then Some (record { future = f; waker = w }) else waker_under others m) (ne_eqb n m differs)) ∙ ap (λ q. waker_under q m) (sym first) ∙ had.0,
+            sym (ap (λ t. if t then Some (record { name = f; waker = w }) else waker_under others m) (ne_eqb n m differs)) ∙ ap (λ q. waker_under q m) (sym first) ∙ had.0,
             told_still ws (insert ws f (record x { alone = true })) f m b (λ g other. get-other ws f g (record x { alone = true }) other)
                 (λ y also number. differs (inside (sym mine ∙ ap (λ (z : WaitEntry). z.number) (inside (sym there ∙ also)) ∙ number))) had.1,
           ));
@@ -339,10 +339,10 @@ module _ (e : KeptCondvar) (ws : Names WaitEntry) (good : AreListed e ws) where
         mine = ap (λ (y : WaitEntry). y.number) (inside (sym there ∙ first_there.1)) ∙ first_there.2
 
         behind : (m : ℕ) → IsSome (waker_under others m) → IsSome (waker_under queue m)
-        behind m waited = subst (λ q. IsSome (waker_under q m)) (sym first) (elim (n == m) as (λ b. IsSome (if b then Some (record { future = f; waker = w }) else waker_under others m)) [ true ↦ refl | false ↦ waited ])
+        behind m waited = subst (λ q. IsSome (waker_under q m)) (sym first) (elim (n == m) as (λ b. IsSome (if b then Some (record { name = f; waker = w }) else waker_under others m)) [ true ↦ refl | false ↦ waited ])
 
         told : (m : ℕ) → Knows e.condvar m → Knows now m
-        told m (inl waited) = elim (n == m) as (λ b. (n == m) ≡ b → IsSome (if b then Some (record { future = f; waker = w }) else waker_under others m) → Knows now m) [
+        told m (inl waited) = elim (n == m) as (λ b. (n == m) ≡ b → IsSome (if b then Some (record { name = f; waker = w }) else waker_under others m) → Knows now m) [
           | true ↦ λ is some. inr (ap is_some (ap (get (insert e.condvar.notified n true)) (sym (eqb-true n m is)) ∙ get-there e.condvar.notified n true))
           | false ↦ λ is some. inl some
         ] refl (subst (λ q. IsSome (waker_under q m)) first waited)
@@ -377,17 +377,17 @@ module _ (e : KeptCondvar) (ws : Names WaitEntry) (good : AreListed e ws) where
     was_notified not n number = elim (good.known f x there n number).0 [ inl waited ↦ absurd (not (subst (IsWaitingUnder e.condvar) (sym number) waited)) | inr told ↦ told ]
 
     -- it has another waker
-    pub rewakes : (n w : ℕ) → x.number ≡ Some n → AreListed (record e { condvar = record e.condvar { waiting = with_waker queue n (record { future = f; waker = w }) } }) ws
+    pub rewakes : (n w : ℕ) → x.number ≡ Some n → AreListed (record e { condvar = record e.condvar { waiting = with_waker queue n (record { name = f; waker = w }) } }) ws
     rewakes n w number = record {
       waits = of_with ws good.apart f n x there number w queue good.waits;
       known = λ g y is m same. let known = good.known g y is m same in (
-        elim known.0 [ inl waited ↦ inl (with-there queue n m (record { future = f; waker = w }) ∙ waited) | inr told ↦ inr told ],
+        elim known.0 [ inl waited ↦ inl (with-there queue n m (record { name = f; waker = w }) ∙ waited) | inr told ↦ inr told ],
         known.1,
       );
       apart = good.apart;
-      notified = λ m b is. let had = good.notified m b is in (with-none queue n m (record { future = f; waker = w }) had.0, had.1);
-      unnotified = λ g y is m same waited. good.unnotified g y is m same (sym (with-there queue n m (record { future = f; waker = w })) ∙ waited);
-      distinct = distinct_with queue n (record { future = f; waker = w }) good.distinct;
+      notified = λ m b is. let had = good.notified m b is in (with-none queue n m (record { name = f; waker = w }) had.0, had.1);
+      unnotified = λ g y is m same waited. good.unnotified g y is m same (sym (with-there queue n m (record { name = f; waker = w })) ∙ waited);
+      distinct = distinct_with queue n (record { name = f; waker = w }) good.distinct;
       quiet = good.quiet;
       counted = good.counted;
     }
@@ -479,29 +479,29 @@ module _ (e : KeptCondvar) (ws : Names WaitEntry) (good : AreListed e ws) where
 
       -- it is listed, last of all
       pub lists : (place w : ℕ) → waker_under queue place ≡ None → get e.condvar.notified place ≡ None → (y : WaitEntry) → y.number ≡ Some place → y.polled ≡ true → y.alone ≡ false
-          → AreListed (forgotten_under (record e { condvar = record e.condvar { waiting = queue ++ (place, record { future = f; waker = w }) ∷ [] } }) x.number) (insert ws f y)
+          → AreListed (forgotten_under (record e { condvar = record e.condvar { waiting = queue ++ (place, record { name = f; waker = w }) ∷ [] } }) x.number) (insert ws f y)
       lists place w free quiet y listed polled with_all = record {
-        waits = of_end (insert ws f y) queue (place, record { future = f; waker = w }) (of_changed ws (insert ws f y) f queue good.waits idle (λ g differs. get-other ws f g y differs)) (y, get-there ws f y, listed);
+        waits = of_end (insert ws f y) queue (place, record { name = f; waker = w }) (of_changed ws (insert ws f y) f queue good.waits idle (λ g differs. get-other ws f g y differs)) (y, get-there ws f y, listed);
         known = by_put ws f y (λ g o. (z : WaitEntry) → o ≡ Some z → (m : ℕ) → z.number ≡ Some m
-            → Knows (record e.condvar { waiting = queue ++ (place, record { future = f; waker = w }) ∷ []; notified = forgotten e.condvar.notified x.number }) m × (z.polled ≡ true))
+            → Knows (record e.condvar { waiting = queue ++ (place, record { name = f; waker = w }) ∷ []; notified = forgotten e.condvar.notified x.number }) m × (z.polled ≡ true))
             (λ z is m number. let same : y ≡ z = inside is in
             let its : place ≡ m = inside (sym listed ∙ ap (λ (y : WaitEntry). y.number) same ∙ number) in (
-              inl (ap is_some (ap (waker_under (queue ++ (place, record { future = f; waker = w }) ∷ [])) (sym its) ∙ end-there queue place (record { future = f; waker = w }) free)),
+              inl (ap is_some (ap (waker_under (queue ++ (place, record { name = f; waker = w }) ∷ [])) (sym its) ∙ end-there queue place (record { name = f; waker = w }) free)),
               ap (λ (y : WaitEntry). y.polled) (sym same) ∙ polled,
             ))
             (λ g differs z is m number. let known = others_known g differs z is m number in (
-              elim known.0 [ inl waited ↦ inl (end-some queue m (place, record { future = f; waker = w }) waited) | inr told ↦ inr told ],
+              elim known.0 [ inl waited ↦ inl (end-some queue m (place, record { name = f; waker = w }) waited) | inr told ↦ inr told ],
               known.1,
             ));
         notified = λ m b is.
             let had = others_told (insert ws f y) (λ g differs. get-other ws f g y differs) m b is in (
-              end-other queue place m (record { future = f; waker = w }) (λ same. absurd (let none : get e.condvar.notified m ≡ None = ap (get e.condvar.notified) (sym same) ∙ quiet in let some = had.0 in cc)) ∙ had.1,
+              end-other queue place m (record { name = f; waker = w }) (λ same. absurd (let none : get e.condvar.notified m ≡ None = ap (get e.condvar.notified) (sym same) ∙ quiet in let some = had.0 in cc)) ∙ had.1,
               had.2,
             );
-        unnotified = by_put ws f y (λ g o. (z : WaitEntry) → o ≡ Some z → (m : ℕ) → z.number ≡ Some m → IsSome (waker_under (queue ++ (place, record { future = f; waker = w }) ∷ []) m) → z.alone ≡ false)
+        unnotified = by_put ws f y (λ g o. (z : WaitEntry) → o ≡ Some z → (m : ℕ) → z.number ≡ Some m → IsSome (waker_under (queue ++ (place, record { name = f; waker = w }) ∷ []) m) → z.alone ≡ false)
             (λ z is m number waited. ap (λ (z : WaitEntry). z.alone) (sym (inside is)) ∙ with_all)
-            (λ g differs z is m number waited. good.unnotified g z is m number (sym (ap is_some (end-other queue place m (record { future = f; waker = w }) (λ same. fresh m same (good.known g z is m number).0))) ∙ waited));
-        distinct = distinct_end queue place (record { future = f; waker = w }) free good.distinct;
+            (λ g differs z is m number waited. good.unnotified g z is m number (sym (ap is_some (end-other queue place m (record { name = f; waker = w }) (λ same. fresh m same (good.known g z is m number).0))) ∙ waited));
+        distinct = distinct_end queue place (record { name = f; waker = w }) free good.distinct;
         apart = apart_put ws f y good.apart (λ n number g z is same. absurd (fresh n (inside (sym listed ∙ number)) (good.known g z is n same).0));
         quiet = good.quiet;
         counted = omega (arith, good.counted, len-over ws f y x there);

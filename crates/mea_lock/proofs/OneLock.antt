@@ -438,7 +438,7 @@ module _ (e : KeptLock) (fs : Names KeptFuture) (gs : Names GuardEntry) (kept : 
 
     module _ (w : ℕ) (t : Core NamedWaker) (y : RwWait) where
       abbrev waker : NamedWaker
-      waker = record { future = f; waker = w }
+      waker = record { name = f; waker = w }
 
       module _ (i : ℕ) (g : GuardEntry) (none : get gs i ≡ None) (same : g.plain ≡ x.plain) (writes : g.writes ≡ is_write x.wait) (k : NamedWaker) (alone : IsFreeFor g.writes e.lock)
           (held : held_of t ≡ held_of permits + share_of e.lock g.writes) (sound : IsSound (record e.lock { permits = t; writing = g.writes })) where
@@ -676,7 +676,7 @@ module _ (e : KeptLock) (fs : Names KeptFuture) (gs : Names GuardEntry) (kept : 
       where
         at : (q : List (Waiter NamedWaker × ℕ)) → permits.queue ≡ q → HasNoDebt q → AreOf acquires q → permits.queue ≡ []
         at [] is debts are = is
-        at ((Acquires n d k, l) ∷ q) is debts are = absurd (no_acquire k.future (Queued d n) are.0)
+        at ((Acquires n d k, l) ∷ q) is debts are = absurd (no_acquire k.name (Queued d n) are.0)
         at ((Owes, l) ∷ q) is debts are = absurd debts
 
     no_granted : permits.granted ≡ empty

@@ -49,7 +49,7 @@ waiting_in cs = total (λ o e. waiters e) cs
 
 registered_is : (cs : Names KeptCondvar) (ws : Names WaitEntry) → registered (condvars_seen cs ws) ≡ waiting_in cs
 registered_is cs ws = total-seen condvar_seen (λ (q : Waiting). length q) cs
-    ∙ total-same (λ o (e : KeptCondvar). length (listed_in e.condvar.waiting)) (λ o e. waiters e) cs (λ o e there. length-map e.condvar.waiting (λ (k : ℕ × NamedWaker). (k.1.future, k.1.waker)))
+    ∙ total-same (λ o (e : KeptCondvar). length (listed_in e.condvar.waiting)) (λ o e. waiters e) cs (λ o e there. length-map e.condvar.waiting (λ (k : ℕ × NamedWaker). (k.1.name, k.1.waker)))
 
 -- ---- what is looked up
 pub condvar_seen_is : (cs : Names KeptCondvar) (c : ℕ) → is_some (get cs c) ≡ is_some (get (seen condvar_seen cs) c)
@@ -334,7 +334,7 @@ module _ {old : Part Condvars} {i : ℕ} (s : Site old i) where
       where
         no_waiter : (q : List (ℕ × NamedWaker)) → AreOf (own of_wait c s.ws) q → len (own of_wait c s.ws) ≡ 0 → length q ≡ 0
         no_waiter [] are none = refl
-        no_waiter (k ∷ q) are none = absurd (let some = len-some (own of_wait c s.ws) k.1.future are.0.0 are.0.1 in omega arith)
+        no_waiter (k ∷ q) are none = absurd (let some = len-some (own of_wait c s.ws) k.1.name are.0.0 are.0.1 in omega arith)
 
   -- ---- one wait
   module _ (f : ℕ) (x : WaitEntry) (e : KeptCondvar) (wait : get s.ws f ≡ Some x) (there : get s.cs x.condvar ≡ Some e) where
@@ -377,26 +377,26 @@ module _ {old : Part Condvars} {i : ℕ} (s : Site old i) where
 
     -- ---- one that waits has another waker
     pub waits_on : (w : ℕ) → IsWaitingUnder e.condvar x.number
-        → AreKept (insert s.cs x.condvar (rewoken_under e x.number (record { future = f; waker = w }))) s.ws (i + 1)
-        × ((m : Part Locks) (r : Waking ℕ) → m.next ≤ i → PlaysWaits m old i (Poll f w) answers.Pending m (part_of (insert s.cs x.condvar (rewoken_under e x.number (record { future = f; waker = w }))) s.ws (i + 1)) r r)
+        → AreKept (insert s.cs x.condvar (rewoken_under e x.number (record { name = f; waker = w }))) s.ws (i + 1)
+        × ((m : Part Locks) (r : Waking ℕ) → m.next ≤ i → PlaysWaits m old i (Poll f w) answers.Pending m (part_of (insert s.cs x.condvar (rewoken_under e x.number (record { name = f; waker = w }))) s.ws (i + 1)) r r)
     waits_on w under = at x.number refl
       where
         waits_now : waits (listed_in e.condvar.waiting) f ≡ true
         waits_now = one.waits_under e _ (good x.condvar e there) f x own_wait under
 
-        at : (number : Option ℕ) → x.number ≡ number → AreKept (insert s.cs x.condvar (rewoken_under e number (record { future = f; waker = w }))) s.ws (i + 1)
-            × ((m : Part Locks) (r : Waking ℕ) → m.next ≤ i → PlaysWaits m old i (Poll f w) answers.Pending m (part_of (insert s.cs x.condvar (rewoken_under e number (record { future = f; waker = w }))) s.ws (i + 1)) r r)
+        at : (number : Option ℕ) → x.number ≡ number → AreKept (insert s.cs x.condvar (rewoken_under e number (record { name = f; waker = w }))) s.ws (i + 1)
+            × ((m : Part Locks) (r : Waking ℕ) → m.next ≤ i → PlaysWaits m old i (Poll f w) answers.Pending m (part_of (insert s.cs x.condvar (rewoken_under e number (record { name = f; waker = w }))) s.ws (i + 1)) r r)
         at None is = absurd (subst (IsWaitingUnder e.condvar) is under)
         at (Some n) is =
             let k = good x.condvar e there in
-            let e' : KeptCondvar = rewoken_under e (Some n) (record { future = f; waker = w }) in
+            let e' : KeptCondvar = rewoken_under e (Some n) (record { name = f; waker = w }) in
             let polled = (k.known f x own_wait n is).1 in
             let seen_is = one.listed_with _ k.apart f n x own_wait is w e.condvar.waiting k.waits in
-            let counted = waiting_now x.condvar e there (rewoken_under e (Some n) (record { future = f; waker = w })) in
-            let many = sym (length-map (rewoken_under e (Some n) (record { future = f; waker = w })).condvar.waiting (λ (k : ℕ × NamedWaker). (k.1.future, k.1.waker))) ∙ ap (λ (q : Waiting). length q) seen_is
-            ∙ length-with_waker (listed_in e.condvar.waiting) f w ∙ length-map e.condvar.waiting (λ (k : ℕ × NamedWaker). (k.1.future, k.1.waker)) in (
-              turns x.condvar e there (rewoken_under e (Some n) (record { future = f; waker = w })) s.ws Stays (one.rewakes e _ k f x own_wait n w is) (omega arith),
-              λ m r later. plays_as (Poll f w) answers.Pending m m _ (insert s.cs x.condvar (rewoken_under e (Some n) (record { future = f; waker = w }))) s.ws r r [] (λ l. found_wait m l _ ∙ if_true _ _ _ waits_now)
+            let counted = waiting_now x.condvar e there (rewoken_under e (Some n) (record { name = f; waker = w })) in
+            let many = sym (length-map (rewoken_under e (Some n) (record { name = f; waker = w })).condvar.waiting (λ (k : ℕ × NamedWaker). (k.1.name, k.1.waker))) ∙ ap (λ (q : Waiting). length q) seen_is
+            ∙ length-with_waker (listed_in e.condvar.waiting) f w ∙ length-map e.condvar.waiting (λ (k : ℕ × NamedWaker). (k.1.name, k.1.waker)) in (
+              turns x.condvar e there (rewoken_under e (Some n) (record { name = f; waker = w })) s.ws Stays (one.rewakes e _ k f x own_wait n w is) (omega arith),
+              λ m r later. plays_as (Poll f w) answers.Pending m m _ (insert s.cs x.condvar (rewoken_under e (Some n) (record { name = f; waker = w }))) s.ws r r [] (λ l. found_wait m l _ ∙ if_true _ _ _ waits_now)
                   (seen-insert condvar_seen s.cs x.condvar _ ∙ ap (insert (seen condvar_seen s.cs) x.condvar) seen_is)
                   (sym (insert_same (seen wait_seen s.ws) f _ (seen-at wait_seen s.ws f x wait ∙ (λ j. Some (record (wait_seen x) { polled = polled j; listed = ap (λ (o : Option ℕ). is_some o) is j })))))
                   (sym (append-nil r.wakers)) (omega (arith, counted, many)) (omega arith),
@@ -459,25 +459,25 @@ module _ {old : Part Condvars} {i : ℕ} (s : Site old i) where
             )
 
         -- it gave the lock up, and is the last that waits
-        module _ (polled : was_polled (get m'.hall.futures f) ≡ false) (place : ℕ) (e1 : KeptCondvar) (listed : Lists e.condvar e1.condvar place (record { future = f; waker = w })) (is : e1 ≡ record e { condvar = e1.condvar }) where
+        module _ (polled : was_polled (get m'.hall.futures f) ≡ false) (place : ℕ) (e1 : KeptCondvar) (listed : Lists e.condvar e1.condvar place (record { name = f; waker = w })) (is : e1 ≡ record e { condvar = e1.condvar }) where
           abbrev pub lister : WaitEntry
           lister = record x { polled = true; number = Some place; alone = false }
 
           abbrev with_place : KeptCondvar
-          with_place = record e { condvar = record e.condvar { waiting = e.condvar.waiting ++ (place, record { future = f; waker = w }) ∷ [] } }
+          with_place = record e { condvar = record e.condvar { waiting = e.condvar.waiting ++ (place, record { name = f; waker = w }) ∷ [] } }
 
           listed_is : e1 ≡ with_place
           listed_is = is ∙ ap (λ s. record e { condvar = s }) listed.is
 
-          listed_end : (q : List (ℕ × NamedWaker)) → listed_in (q ++ (place, record { future = f; waker = w }) ∷ []) ≡ listed_in q ++ (f, w) ∷ []
+          listed_end : (q : List (ℕ × NamedWaker)) → listed_in (q ++ (place, record { name = f; waker = w }) ∷ []) ≡ listed_in q ++ (f, w) ∷ []
           listed_end [] = refl
-          listed_end (k ∷ q) = ap (λ r. (k.1.future, k.1.waker) ∷ r) (listed_end q)
+          listed_end (k ∷ q) = ap (λ r. (k.1.name, k.1.waker) ∷ r) (listed_end q)
 
           pub lists : AreKept (insert s.cs x.condvar (forgotten_under e1 x.number)) (insert s.ws f lister) (i + 1)
               × PlaysWaits m old i (Poll f w) answers.Pending m' (part_of (insert s.cs x.condvar (forgotten_under e1 x.number)) (insert s.ws f lister) (i + 1)) r0 r2
           lists =
               let counted = waiting_now x.condvar e there (forgotten_under with_place x.number) in
-              let longer = length-append e.condvar.waiting ((place, record { future = f; waker = w }) ∷ []) in
+              let longer = length-append e.condvar.waiting ((place, record { name = f; waker = w }) ∷ []) in
               rw listed_is (
                 turns x.condvar e there (forgotten_under with_place x.number) (insert s.ws f lister) (comes lister refl)
                     (rw (own-put of_wait x.condvar s.ws f lister refl) (one.lists e _ (good x.condvar e there) f x own_wait idle place w listed.not_waiting listed.not_notified lister refl refl refl)) (omega arith),

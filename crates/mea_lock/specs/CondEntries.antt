@@ -22,7 +22,7 @@ kept_condvar_code = code_by (Condvar NamedWaker × ℕ) (coded× (condvar_code w
 
 -- who waits, by name
 abbrev pub listed_in : List (ℕ × NamedWaker) → Waiting
-listed_in q = map (λ (e : ℕ × NamedWaker). (e.1.future, e.1.waker)) q
+listed_in q = map (λ (e : ℕ × NamedWaker). (e.1.name, e.1.waker)) q
 
 -- the wakers of those who wait
 abbrev pub wakers_in : List (ℕ × NamedWaker) → List ℕ
@@ -68,7 +68,7 @@ pub record NotifiesFirst (old : KeptCondvar) (f : ℕ) (new : KeptCondvar) (befo
   pub number : ℕ
   pub waker : ℕ
   pub others : List (ℕ × NamedWaker)
-  pub first : old.condvar.waiting ≡ (number, record { future = f; waker = waker }) ∷ others
+  pub first : old.condvar.waiting ≡ (number, record { name = f; waker = waker }) ∷ others
   pub entry : new ≡ record old { condvar = record { waiting = others; notified = fin.insert old.condvar.notified number true; wakes = [] } }
   pub ready : after ≡ record { wakers = before.wakers ++ waker ∷ []; registered = before.registered - 1 }
 

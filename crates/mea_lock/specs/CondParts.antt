@@ -15,7 +15,7 @@ condvars_seen cs ws = record { condvars = seen condvar_seen cs; waits = seen wai
 -- each that waits is the wait which its waker names
 abbrev pub AreOf : Names WaitEntry → List (ℕ × NamedWaker) → Type 0
 AreOf ws [] = Unit {0}
-AreOf ws (e ∷ q) = ((x : WaitEntry) × (get ws e.1.future ≡ Some x) × (x.number ≡ Some e.0)) × AreOf ws q
+AreOf ws (e ∷ q) = ((x : WaitEntry) × (get ws e.1.name ≡ Some x) × (x.number ≡ Some e.0)) × AreOf ws q
 
 -- no two waits have one number
 abbrev pub NumbersApart : Names WaitEntry → Type 0

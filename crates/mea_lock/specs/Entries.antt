@@ -59,7 +59,7 @@ pub record Settles (old : KeptLock) (l : NamedLock) (new : KeptLock) (before aft
 -- the future named f was polled
 pub record Polled (old : KeptLock) (f : ℕ) (x : KeptFuture) (waker : ℕ) (turn : Turn NamedWaker) (new : KeptLock) (x' : KeptFuture) (before after : Waking ℕ) : Type 0 where
   pub left : NamedLock
-  pub polls : PollsLock old.lock x.wait (record { future = f; waker = waker }) turn left x'.wait
+  pub polls : PollsLock old.lock x.wait (record { name = f; waker = waker }) turn left x'.wait
   pub entry : new ≡ record old { lock = left }
   pub future : x' ≡ record x { wait = x'.wait }
   pub wakers : after.wakers ≡ before.wakers

@@ -83,12 +83,12 @@ impl CondvarEntry {
     /// Lists the wait that is named f, and tells its number. Its waker is counted first. On an error nothing has
     /// changed.
     pub fn list(&mut self, f: u64, waker: u64, ready: &mut Ready<u64>) -> Result<usize, NoMemory>
-        ensures ok { IfOk result (λ number. Lists self.old.condvar self.new.condvar number (record { future = f; waker = waker }) × (self.new ≡ record self.old { condvar = self.new.condvar })
+        ensures ok { IfOk result (λ number. Lists self.old.condvar self.new.condvar number (record { name = f; waker = waker }) × (self.new ≡ record self.old { condvar = self.new.condvar })
             × (ready.new ≡ record ready.old { registered = ready.old.registered + 1 })) }
         ensures err { OnErr result ((self.new ≡ self.old) × (ready.new ≡ ready.old)) }
     {
         ready.register()?;
-        let Ok(number) = self.core.list(NamedWaker { future: f, waker }) else {
+        let Ok(number) = self.core.list(NamedWaker { name: f, waker }) else {
             ready.unregister(1);
             return Err(NoMemory);
         };
@@ -98,10 +98,10 @@ impl CondvarEntry {
     /// Gives the wait that is named f another waker.
     pub fn rewake_under(&mut self, number: Option<usize>, f: u64, waker: u64)
         requires { IsWaitingUnder self.old.condvar number }
-        ensures { self.new ≡ rewoken_under self.old number (record { future = f; waker = waker }) }
+        ensures { self.new ≡ rewoken_under self.old number (record { name = f; waker = waker }) }
     {
         if let Some(number) = number {
-            self.core.rewake(number, NamedWaker { future: f, waker });
+            self.core.rewake(number, NamedWaker { name: f, waker });
         }
     }
 
@@ -148,7 +148,7 @@ impl CondvarEntry {
         self.core.notify_one();
         let first = self.core.next_wake()?;
         ready.wake(first.waker);
-        Some(first.future)
+        Some(first.name)
     }
 
     /// Notifies each that waits, in their order.

@@ -328,7 +328,7 @@ impl<C: LockCore> LockEntry<C> {
         let before = self.core.queue_len();
         let Ok(turn) = self
             .core
-            .poll(&mut future.wait, NamedWaker { future: f, waker })
+            .poll(&mut future.wait, NamedWaker { name: f, waker })
         else {
             ready.unregister(1);
             return Err(NoMemory);

@@ -104,15 +104,15 @@ module _ (e : BarrierEntry) (ws : Names BarrierWaitEntry) (n i : ℕ) (a : AreKe
       given : has_given e.core.waiting (slot_of x.wait) ≡ true
       given = ((a.linked).each f (slot_of x.wait) slot_known).1.given
 
-      names_now : (w : ℕ) → set_names (with_waker e.core.waiting (slot_of x.wait) (record { future = f; waker = w })) ≡ registering (set_names e.core.waiting) f w
+      names_now : (w : ℕ) → set_names (with_waker e.core.waiting (slot_of x.wait) (record { name = f; waker = w })) ≡ registering (set_names e.core.waiting) f w
       names_now w = registered_names e.core.waiting (slots_of ws) n f w (slot_of x.wait) a.linked slot_known
 
       -- its waker is registered
-      waits_on : (w round : ℕ) (c : cores.Barrier NamedWaker) → c.waiting ≡ with_waker e.core.waiting (slot_of x.wait) (record { future = f; waker = w }) → c.wakes ≡ []
+      waits_on : (w round : ℕ) (c : cores.Barrier NamedWaker) → c.waiting ≡ with_waker e.core.waiting (slot_of x.wait) (record { name = f; waker = w }) → c.wakes ≡ []
           → AreKept (record e { core = c }) (insert ws f (record x { wait = Arrived round (slot_after e.core.waiting (slot_of x.wait)) })) (i + 1)
       waits_on w round c waiting quiet = record {
         linked = subst (λ s. SetLinked s (slots_of (insert ws f (record x { wait = Arrived round (slot_after e.core.waiting (slot_of x.wait)) }))) (i + 1)) (sym waiting)
-            (subst (λ m. SetLinked (with_waker e.core.waiting (slot_of x.wait) (record { future = f; waker = w })) m (i + 1)) (sym (seen-insert (λ (x : BarrierWaitEntry). slot_of x.wait) ws f (record x { wait = Arrived round (slot_after e.core.waiting (slot_of x.wait)) })))
+            (subst (λ m. SetLinked (with_waker e.core.waiting (slot_of x.wait) (record { name = f; waker = w })) m (i + 1)) (sym (seen-insert (λ (x : BarrierWaitEntry). slot_of x.wait) ws f (record x { wait = Arrived round (slot_after e.core.waiting (slot_of x.wait)) })))
             (linked_later _ _ n (i + 1) (registered_links e.core.waiting (slots_of ws) n f w (slot_of x.wait) a.linked slot_known) (omega (arith, later))));
         unfinished = by_put ws f (record x { wait = Arrived round (slot_after e.core.waiting (slot_of x.wait)) }) (λ f p. (y : BarrierWaitEntry) → p ≡ Some y → IsUnfinished y.wait) (λ y is. subst (λ (y : BarrierWaitEntry). IsUnfinished y.wait) (inside is) tt) (λ g apart y is. a.unfinished g y is);
         quiet = quiet;
@@ -324,9 +324,9 @@ module _ {old : Part Barriers} {i : ℕ} (s : Site old i) where
 
       module _ (w : ℕ) (d : BarrierEntry) (u : Wait) (before after : Waking ℕ) where
         -- it waits: its waker is registered
-        registers : (round : ℕ) (c : cores.Barrier NamedWaker) → c.waiting ≡ with_waker e.core.waiting (slot_of x.wait) (record { future = f; waker = w }) → c.wakes ≡ [] → (out : Outcome Barriers) → act_at here i (PollIt f w) ≡ out → out.reply ≡ answers.Pending → out.wakes ≡ []
+        registers : (round : ℕ) (c : cores.Barrier NamedWaker) → c.waiting ≡ with_waker e.core.waiting (slot_of x.wait) (record { name = f; waker = w }) → c.wakes ≡ [] → (out : Outcome Barriers) → act_at here i (PollIt f w) ≡ out → out.reply ≡ answers.Pending → out.wakes ≡ []
             → out.hall ≡ record { barriers = insert (seen barrier_seen s.bs) b (record (core_seen c) { waiting = registering (set_names e.core.waiting) f w }); waits = insert (seen wait_seen s.ws) f (record { barrier = b; round = Some round }) }
-            → (t : Turns e x.wait (record { future = f; waker = w }) Pending d u before after) → record d.core { wakes = t.woken } ≡ c → u ≡ Arrived round (slot_after e.core.waiting (slot_of x.wait))
+            → (t : Turns e x.wait (record { name = f; waker = w }) Pending d u before after) → record d.core { wakes = t.woken } ≡ c → u ≡ Arrived round (slot_after e.core.waiting (slot_of x.wait))
             → Yields (PollIt f w) answers.Pending (insert s.bs b d) (insert s.ws f (record x { wait = u })) before after
         registers round c waiting calm out is pends silent hall t core wait =
             let core_is : d.core ≡ c = quiet_core d c t.woken t.quiet core ∙ (λ j. record c { wakes = sym calm j }) in
@@ -342,27 +342,27 @@ module _ {old : Part Barriers} {i : ℕ} (s : Site old i) where
             (rw (own-put of_barrier b s.ws f (record x { wait = u }) mine, wait, d_is) (waits_on e (own of_barrier b s.ws) s.next i its s.later f x own_future w round c waiting calm)))
             before after (t.wakers ∙ ap (λ ws. before.wakers ++ map (λ (k : NamedWaker). k.waker) ws) none ∙ ap (λ ws. before.wakers ++ ws) (sym silent)) (omega (arith, now, counted))
 
-        pub pends : Turns e x.wait (record { future = f; waker = w }) Pending d u before after → Yields (PollIt f w) answers.Pending (insert s.bs b d) (insert s.ws f (record x { wait = u })) before after
+        pub pends : Turns e x.wait (record { name = f; waker = w }) Pending d u before after → Yields (PollIt f w) answers.Pending (insert s.bs b d) (insert s.ws f (record x { wait = u })) before after
         pends t = at x.wait refl t.polls
           where
-            follows : (c : Bool) → leads (barrier_seen e) ≡ c → x.wait ≡ New → Arrives e.core (record { future = f; waker = w }) (Ok Pending) (record d.core { wakes = t.woken }) u → Yields (PollIt f w) answers.Pending (insert s.bs b d) (insert s.ws f (record x { wait = u })) before after
+            follows : (c : Bool) → leads (barrier_seen e) ≡ c → x.wait ≡ New → Arrives e.core (record { name = f; waker = w }) (Ok Pending) (record d.core { wakes = t.woken }) u → Yields (PollIt f w) answers.Pending (insert s.bs b d) (insert s.ws f (record x { wait = u })) before after
             follows true decided to arrives = elim (cases_eq (e.core.arrivals / e.core.size) 18446744073709551615) [
               | inl last ↦ absurd (let clash = (arrives.overflow decided last).0 in cc)
               | inr few ↦ absurd (let clash = (arrives.completes decided few).0 in cc)
             ]
             follows false decided to arrives =
                 let it = arrives.follows decided in
-                registers (e.core.arrivals / e.core.size) (joined e.core (record { future = f; waker = w })) (ap (λ u. with_waker e.core.waiting (slot_of u) (record { future = f; waker = w })) (sym to)) its_quiet
+                registers (e.core.arrivals / e.core.size) (joined e.core (record { name = f; waker = w })) (ap (λ u. with_waker e.core.waiting (slot_of u) (record { name = f; waker = w })) (sym to)) its_quiet
                 (model.joining here f w (wait_seen x) (barrier_seen e)) (act_is w ∙ ap (λ u. model.poll_at here f w (wait_seen x) (barrier_seen e) (round_of u)) to ∙ if_false (leads (barrier_seen e)) _ _ decided) refl refl
                 (λ j. record { barriers = insert (seen barrier_seen s.bs) (mine j) (record (barrier_seen e) { arrivals = e.core.arrivals + 1; waiting = registering (set_names e.core.waiting) f w }); waits = insert (seen wait_seen s.ws) f (record { barrier = mine j; round = Some (e.core.arrivals / e.core.size) }) })
                 t it.1 (it.2 ∙ ap (λ u. Arrived (e.core.arrivals / e.core.size) (slot_after e.core.waiting (slot_of u))) (sym to))
 
-            runs : (round : ℕ) (slot : Option Place) (c : Bool) → has_completed (barrier_seen e) round ≡ c → x.wait ≡ Arrived round slot → Returns e.core round slot (record { future = f; waker = w }) (Ok Pending) (record d.core { wakes = t.woken }) u
+            runs : (round : ℕ) (slot : Option Place) (c : Bool) → has_completed (barrier_seen e) round ≡ c → x.wait ≡ Arrived round slot → Returns e.core round slot (record { name = f; waker = w }) (Ok Pending) (record d.core { wakes = t.woken }) u
                 → Yields (PollIt f w) answers.Pending (insert s.bs b d) (insert s.ws f (record x { wait = u })) before after
             runs round slot true over to returns = absurd (let clash = (returns.ready (leb-true ((round + 1) * e.core.size) e.core.arrivals over)).0 in cc)
             runs round slot false over to returns =
                 let it = returns.pending (leb-false ((round + 1) * e.core.size) e.core.arrivals over) in
-                registers round (record e.core { waiting = with_waker e.core.waiting slot (record { future = f; waker = w }) }) (ap (λ u. with_waker e.core.waiting (slot_of u) (record { future = f; waker = w })) (sym to)) its_quiet
+                registers round (record e.core { waiting = with_waker e.core.waiting slot (record { name = f; waker = w }) }) (ap (λ u. with_waker e.core.waiting (slot_of u) (record { name = f; waker = w })) (sym to)) its_quiet
                 (model.waiting_on here f w (wait_seen x) (barrier_seen e)) (act_is w ∙ ap (λ u. model.poll_at here f w (wait_seen x) (barrier_seen e) (round_of u)) to ∙ if_false (has_completed (barrier_seen e) round) _ _ over) refl refl
                 (λ j. record {
                   barriers = insert (seen barrier_seen s.bs) (mine j) (record (barrier_seen e) { waiting = registering (set_names e.core.waiting) f w });
@@ -370,14 +370,14 @@ module _ {old : Part Barriers} {i : ℕ} (s : Site old i) where
                 })
                 t it.1 (it.2 ∙ ap (λ u. Arrived round (slot_after e.core.waiting (slot_of u))) (sym to))
 
-            at : (v : Wait) → x.wait ≡ v → Polls e.core x.wait (record { future = f; waker = w }) (Ok Pending) (record d.core { wakes = t.woken }) u → Yields (PollIt f w) answers.Pending (insert s.bs b d) (insert s.ws f (record x { wait = u })) before after
-            at New to polls = follows (leads (barrier_seen e)) refl to (subst (λ v. Polls e.core v (record { future = f; waker = w }) (Ok Pending) (record d.core { wakes = t.woken }) u) to polls)
-            at (Arrived round slot) to polls = runs round slot (has_completed (barrier_seen e) round) refl to (subst (λ v. Polls e.core v (record { future = f; waker = w }) (Ok Pending) (record d.core { wakes = t.woken }) u) to polls)
+            at : (v : Wait) → x.wait ≡ v → Polls e.core x.wait (record { name = f; waker = w }) (Ok Pending) (record d.core { wakes = t.woken }) u → Yields (PollIt f w) answers.Pending (insert s.bs b d) (insert s.ws f (record x { wait = u })) before after
+            at New to polls = follows (leads (barrier_seen e)) refl to (subst (λ v. Polls e.core v (record { name = f; waker = w }) (Ok Pending) (record d.core { wakes = t.woken }) u) to polls)
+            at (Arrived round slot) to polls = runs round slot (has_completed (barrier_seen e) round) refl to (subst (λ v. Polls e.core v (record { name = f; waker = w }) (Ok Pending) (record d.core { wakes = t.woken }) u) to polls)
             at Done to polls = absurd (subst IsUnfinished to ((its).unfinished f x own_future))
 
         -- it is ready, and gone
         goes_off : (c : cores.Barrier NamedWaker) → SetLinked c.waiting (slots_of (own of_barrier b (remove s.ws f))) (i + 1) → (out : Outcome Barriers) → act_at here i (PollIt f w) ≡ out → (answer : Answer) → answer ≡ out.reply → out.wakes ≡ map (λ (k : NamedWaker). k.waker) c.wakes
-            → out.hall.barriers ≡ insert (seen barrier_seen s.bs) b (core_seen c) → out.hall.waits ≡ remove (seen wait_seen s.ws) f → (told : Bool) → (t : Turns e x.wait (record { future = f; waker = w }) (Ready told) d u before after) → record d.core { wakes = t.woken } ≡ c
+            → out.hall.barriers ≡ insert (seen barrier_seen s.bs) b (core_seen c) → out.hall.waits ≡ remove (seen wait_seen s.ws) f → (told : Bool) → (t : Turns e x.wait (record { name = f; waker = w }) (Ready told) d u before after) → record d.core { wakes = t.woken } ≡ c
             → Yields (PollIt f w) answer (insert s.bs b (record d { waits = d.waits - 1 })) (remove s.ws f) before after
         goes_off c linked out is answer replied woken barriers waits told t core =
             let core_is : d.core ≡ record c { wakes = [] } = quiet_core d c t.woken t.quiet core in
@@ -390,7 +390,7 @@ module _ {old : Part Barriers} {i : ℕ} (s : Site old i) where
             (rw d_is (subst (λ m. AreKept (record { core = record c { wakes = [] }; waits = e.waits - 1 }) m (i + 1)) (sym (own-gone of_barrier b s.ws f)) (leaves e (own of_barrier b s.ws) s.next i its s.later f x own_future (record c { wakes = [] }) (subst (λ m. SetLinked c.waiting (slots_of m) (i + 1)) (own-gone of_barrier b s.ws f) linked) refl))))
             before after (t.wakers ∙ ap (λ (c : cores.Barrier NamedWaker). before.wakers ++ map (λ (k : NamedWaker). k.waker) c.wakes) core ∙ ap (λ ws. before.wakers ++ ws) (sym woken)) (omega (arith, now, counted))
 
-        pub readies : i < 2 ^ 64 → (told : Bool) → Turns e x.wait (record { future = f; waker = w }) (Ready told) d u before after → Yields (PollIt f w) (cond told answers.Leader answers.Ready) (insert s.bs b (record d { waits = d.waits - 1 })) (remove s.ws f) before after
+        pub readies : i < 2 ^ 64 → (told : Bool) → Turns e x.wait (record { name = f; waker = w }) (Ready told) d u before after → Yields (PollIt f w) (cond told answers.Leader answers.Ready) (insert s.bs b (record d { waits = d.waits - 1 })) (remove s.ws f) before after
         readies fits told t = at x.wait refl t.polls
           where
             not_last : e.core.arrivals / e.core.size ≡ 18446744073709551615 → ⊥
@@ -403,7 +403,7 @@ module _ {old : Part Barriers} {i : ℕ} (s : Site old i) where
             own_gone : SetLinked e.core.waiting (slots_of (own of_barrier b (remove s.ws f))) (i + 1)
             own_gone = subst (λ m. SetLinked e.core.waiting (slots_of m) (i + 1)) (sym (own-gone of_barrier b s.ws f)) (gone e (own of_barrier b s.ws) s.next i its s.later f x own_future)
 
-            leads_now : (c : Bool) → leads (barrier_seen e) ≡ c → x.wait ≡ New → Arrives e.core (record { future = f; waker = w }) (Ok (Ready told)) (record d.core { wakes = t.woken }) u → Yields (PollIt f w) (cond told answers.Leader answers.Ready) (insert s.bs b (record d { waits = d.waits - 1 })) (remove s.ws f) before after
+            leads_now : (c : Bool) → leads (barrier_seen e) ≡ c → x.wait ≡ New → Arrives e.core (record { name = f; waker = w }) (Ok (Ready told)) (record d.core { wakes = t.woken }) u → Yields (PollIt f w) (cond told answers.Leader answers.Ready) (insert s.bs b (record d { waits = d.waits - 1 })) (remove s.ws f) before after
             leads_now false decided to arrives = absurd (let clash = (arrives.follows decided).0 in cc)
             leads_now true decided to arrives =
                 let it = arrives.completes decided not_last in
@@ -414,7 +414,7 @@ module _ {old : Part Barriers} {i : ℕ} (s : Site old i) where
                 (wakers-names e.core.waiting.wakers ∙ ap (λ ws. map (λ (k : NamedWaker). k.waker) (ws ++ e.core.waiting.wakers)) (sym its_quiet))
                 (λ j. insert (seen barrier_seen s.bs) (mine j) (record (barrier_seen e) { arrivals = e.core.arrivals + 1; waiting = [] })) refl told t it.1
 
-            over_now : (round : ℕ) (slot : Option Place) (c : Bool) → has_completed (barrier_seen e) round ≡ c → x.wait ≡ Arrived round slot → Returns e.core round slot (record { future = f; waker = w }) (Ok (Ready told)) (record d.core { wakes = t.woken }) u
+            over_now : (round : ℕ) (slot : Option Place) (c : Bool) → has_completed (barrier_seen e) round ≡ c → x.wait ≡ Arrived round slot → Returns e.core round slot (record { name = f; waker = w }) (Ok (Ready told)) (record d.core { wakes = t.woken }) u
                 → Yields (PollIt f w) (cond told answers.Leader answers.Ready) (insert s.bs b (record d { waits = d.waits - 1 })) (remove s.ws f) before after
             over_now round slot false over to returns = absurd (let clash = (returns.pending (leb-false ((round + 1) * e.core.size) e.core.arrivals over)).0 in cc)
             over_now round slot true over to returns =
@@ -424,9 +424,9 @@ module _ {old : Part Barriers} {i : ℕ} (s : Site old i) where
                 (cond told answers.Leader answers.Ready) (ap (λ t. cond t answers.Leader answers.Ready) follower) (ap (map (λ (k : NamedWaker). k.waker)) (sym its_quiet))
                 (sym (insert_same (seen barrier_seen s.bs) b (barrier_seen e) its_seen)) refl told t it.1
 
-            at : (v : Wait) → x.wait ≡ v → Polls e.core x.wait (record { future = f; waker = w }) (Ok (Ready told)) (record d.core { wakes = t.woken }) u → Yields (PollIt f w) (cond told answers.Leader answers.Ready) (insert s.bs b (record d { waits = d.waits - 1 })) (remove s.ws f) before after
-            at New to polls = leads_now (leads (barrier_seen e)) refl to (subst (λ v. Polls e.core v (record { future = f; waker = w }) (Ok (Ready told)) (record d.core { wakes = t.woken }) u) to polls)
-            at (Arrived round slot) to polls = over_now round slot (has_completed (barrier_seen e) round) refl to (subst (λ v. Polls e.core v (record { future = f; waker = w }) (Ok (Ready told)) (record d.core { wakes = t.woken }) u) to polls)
+            at : (v : Wait) → x.wait ≡ v → Polls e.core x.wait (record { name = f; waker = w }) (Ok (Ready told)) (record d.core { wakes = t.woken }) u → Yields (PollIt f w) (cond told answers.Leader answers.Ready) (insert s.bs b (record d { waits = d.waits - 1 })) (remove s.ws f) before after
+            at New to polls = leads_now (leads (barrier_seen e)) refl to (subst (λ v. Polls e.core v (record { name = f; waker = w }) (Ok (Ready told)) (record d.core { wakes = t.woken }) u) to polls)
+            at (Arrived round slot) to polls = over_now round slot (has_completed (barrier_seen e) round) refl to (subst (λ v. Polls e.core v (record { name = f; waker = w }) (Ok (Ready told)) (record d.core { wakes = t.woken }) u) to polls)
             at Done to polls = absurd (subst IsUnfinished to ((its).unfinished f x own_future))
 
       -- where nothing changed

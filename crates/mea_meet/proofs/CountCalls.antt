@@ -390,7 +390,7 @@ module _ {old : Part Counts} {i : ℕ} (s : Site old i) where
     seen_number : (model.count_at (model.end_of (awaits_of y.wait)) (point_seen e)).number ≡ (count_at (end_of y.wait) e.point).number
     seen_number = ap (λ d. (model.count_at d (point_seen e)).number) (ends_seen y.wait) ∙ ap (λ (c : Count). c.number) (seeing.count_at_seen (end_of y.wait) e.point)
 
-    pub waits_on : (w : ℕ) (d : KeptPoint) (x' : CountWait) (before after : Waking ℕ) → Polled e y.wait (record { future = f; waker = w }) Pending d x' before after
+    pub waits_on : (w : ℕ) (d : KeptPoint) (x' : CountWait) (before after : Waking ℕ) → Polled e y.wait (record { name = f; waker = w }) Pending d x' before after
         → Yields (actions.Poll f w) answers.Pending (insert s.ps y.point d) s.ss s.hs (insert s.ws f (record y { wait = x' })) before after
     waits_on w d x' before after polled = at ((count_at (end_of y.wait) e.point).number == 0) refl
       where
@@ -402,7 +402,7 @@ module _ {old : Part Counts} {i : ℕ} (s : Site old i) where
             let is = by_wait f y e future there (model.poll here f w) ∙ if_false ((model.count_at (model.end_of (awaits_of y.wait)) (point_seen e)).number == 0) _ _ (ap (λ n. n == 0) seen_number ∙ test) in
             yields_by (actions.Poll f w) (model.waits_on here f w (wait_seen y) (point_seen e)) is (wait_told f (Some y) future) tt answers.Pending refl
             (insert s.ps y.point d) s.ss s.hs (insert s.ws f (record y { wait = x' }))
-            (seen-insert point_seen s.ps y.point d ∙ ap (insert (seen point_seen s.ps) y.point) (ap point_seen it.1 ∙ seeing.core_registered e.point (end_of y.wait) (slot_of y.wait) (record { future = f; waker = w }) f w
+            (seen-insert point_seen s.ps y.point d ∙ ap (insert (seen point_seen s.ps) y.point) (ap point_seen it.1 ∙ seeing.core_registered e.point (end_of y.wait) (slot_of y.wait) (record { name = f; waker = w }) f w
             (one.names_now e (own of_wait y.point s.ws) (own of_holder y.point s.hs) (own of_itself y.point s.ss) s.next i (its s y.point e there) s.later f y own_future w)
             ∙ ap (λ d. model.with_count d (point_seen e) (with_waker (model.count_at d (point_seen e)) f w)) (sym (ends_seen y.wait)))) refl refl
             (seen-alike wait_seen s.ws f y (record y { wait = x' }) future (λ j. record { point = y.point; awaits = (ap awaits_of it.2 ∙ one.awaits_same y.wait _) j }))
@@ -415,7 +415,7 @@ module _ {old : Part Counts} {i : ℕ} (s : Site old i) where
         at false test = pends (let apart = eqb-false (count_at (end_of y.wait) e.point).number 0 test in omega (arith, apart)) test
 
     -- a poll that is ready: nothing changed yet, and the end of the future is all that is left
-    pub ready_same : (w : ℕ) (d : KeptPoint) (x' : CountWait) (before after : Waking ℕ) → Polled e y.wait (record { future = f; waker = w }) (Ready tt) d x' before after → (d ≡ e) × (x' ≡ y.wait) × (after ≡ before) × ((count_at (end_of y.wait) e.point).number ≡ 0)
+    pub ready_same : (w : ℕ) (d : KeptPoint) (x' : CountWait) (before after : Waking ℕ) → Polled e y.wait (record { name = f; waker = w }) (Ready tt) d x' before after → (d ≡ e) × (x' ≡ y.wait) × (after ≡ before) × ((count_at (end_of y.wait) e.point).number ≡ 0)
     ready_same w d x' before after polled = at ((count_at (end_of y.wait) e.point).number == 0) refl
       where
         at : (b : Bool) → ((count_at (end_of y.wait) e.point).number == 0) ≡ b → (d ≡ e) × (x' ≡ y.wait) × (after ≡ before) × ((count_at (end_of y.wait) e.point).number ≡ 0)
@@ -638,7 +638,7 @@ module _ {old : Part Counts} {i : ℕ} (s : Site old i) where
 
   -- a poll that is ready ends its future
   module _ (f : ℕ) (y : WaitEntry) (e : KeptPoint) (future : get s.ws f ≡ Some y) (there : get s.ps y.point ≡ Some e)
-      (w : ℕ) (d : KeptPoint) (x' : CountWait) (before between : Waking ℕ) (polled : Polled e y.wait (record { future = f; waker = w }) (Ready tt) d x' before between) where
+      (w : ℕ) (d : KeptPoint) (x' : CountWait) (before between : Waking ℕ) (polled : Polled e y.wait (record { name = f; waker = w }) (Ready tt) d x' before between) where
     same : (d ≡ e) × (x' ≡ y.wait) × (between ≡ before) × ((count_at (end_of y.wait) e.point).number ≡ 0)
     same = ready_same f y e future there w d x' before between polled
 

@@ -177,7 +177,7 @@ module _ (e : KeptPoint) (ws : Names WaitEntry) (hs : Names HolderEntry) (ss : N
       slot_known : get (slots_at (end_of y.wait) ws) f ≡ Some (slot_of y.wait)
       slot_known = seen-at (λ (x : WaitEntry). slot_at (end_of y.wait) x.wait) ws f y there ∙ ap (λ s. Some s) (slot_there y.wait)
 
-      pub names_now : (w : ℕ) → set_names (with_waker (count_at (end_of y.wait) e.point).waiting (slot_of y.wait) (record { future = f; waker = w })) ≡ registering (set_names (count_at (end_of y.wait) e.point).waiting) f w
+      pub names_now : (w : ℕ) → set_names (with_waker (count_at (end_of y.wait) e.point).waiting (slot_of y.wait) (record { name = f; waker = w })) ≡ registering (set_names (count_at (end_of y.wait) e.point).waiting) f w
       names_now w = registered_names (count_at (end_of y.wait) e.point).waiting (slots_at (end_of y.wait) ws) n f w (slot_of y.wait) (a.linked (end_of y.wait)) slot_known
 
       pub given : has_given (count_at (end_of y.wait) e.point).waiting (slot_of y.wait) ≡ true
@@ -185,7 +185,7 @@ module _ (e : KeptPoint) (ws : Names WaitEntry) (hs : Names HolderEntry) (ss : N
 
       -- its waker is registered
       pub waits_on : (w : ℕ) (x' : CountWait) → x' ≡ with_slot y.wait (slot_after (count_at (end_of y.wait) e.point).waiting (slot_of y.wait))
-          → AreKept (record e { point = with_count (end_of y.wait) e.point (record (count_at (end_of y.wait) e.point) { waiting = with_waker (count_at (end_of y.wait) e.point).waiting (slot_of y.wait) (record { future = f; waker = w }) }) }) (insert ws f (record y { wait = x' })) hs ss (i + 1)
+          → AreKept (record e { point = with_count (end_of y.wait) e.point (record (count_at (end_of y.wait) e.point) { waiting = with_waker (count_at (end_of y.wait) e.point).waiting (slot_of y.wait) (record { name = f; waker = w }) }) }) (insert ws f (record y { wait = x' })) hs ss (i + 1)
       waits_on w x' is = rw is (record {
         linked = at y.wait refl;
         quiet = quiet_at (end_of y.wait);
@@ -197,17 +197,17 @@ module _ (e : KeptPoint) (ws : Names WaitEntry) (hs : Names HolderEntry) (ss : N
           now : WaitEntry
           now = record y { wait = with_slot y.wait (slot_after (count_at (end_of y.wait) e.point).waiting (slot_of y.wait)) }
 
-          quiet_at : (d : End) → (with_count d e.point (record (count_at d e.point) { waiting = with_waker (count_at d e.point).waiting (slot_of y.wait) (record { future = f; waker = w }) })).wakes ≡ []
+          quiet_at : (d : End) → (with_count d e.point (record (count_at d e.point) { waiting = with_waker (count_at d e.point).waiting (slot_of y.wait) (record { name = f; waker = w }) })).wakes ≡ []
           quiet_at OfSignal = a.quiet
           quiet_at OfMembers = a.quiet
 
-          at : (x : CountWait) → y.wait ≡ x → (d : End) → SetLinked (count_at d (with_count (end_of x) e.point (record (count_at (end_of x) e.point) { waiting = with_waker (count_at (end_of x) e.point).waiting (slot_of x) (record { future = f; waker = w }) }))).waiting
+          at : (x : CountWait) → y.wait ≡ x → (d : End) → SetLinked (count_at d (with_count (end_of x) e.point (record (count_at (end_of x) e.point) { waiting = with_waker (count_at (end_of x) e.point).waiting (slot_of x) (record { name = f; waker = w }) }))).waiting
               (slots_at d (insert ws f (record y { wait = with_slot x (slot_after (count_at (end_of x) e.point).waiting (slot_of x)) }))) (i + 1)
-          at (waits.Signal slot borrowed) mine OfSignal = subst (λ m. SetLinked (with_waker e.point.signal.waiting slot (record { future = f; waker = w })) m (i + 1)) (sym (seen-insert (λ (y : WaitEntry). slot_at OfSignal y.wait) ws f _))
+          at (waits.Signal slot borrowed) mine OfSignal = subst (λ m. SetLinked (with_waker e.point.signal.waiting slot (record { name = f; waker = w })) m (i + 1)) (sym (seen-insert (λ (y : WaitEntry). slot_at OfSignal y.wait) ws f _))
               (linked_later _ _ n (i + 1) (registered_links e.point.signal.waiting (slots_at OfSignal ws) n f w slot (a.linked OfSignal) (seen-at (λ (x : WaitEntry). slot_at OfSignal x.wait) ws f y there ∙ ap (λ x. Some (slot_at OfSignal x)) mine)) (omega (arith, later)))
           at (waits.Signal slot borrowed) mine OfMembers = subst (λ m. SetLinked e.point.receivers.waiting m (i + 1)) (sym (seen-insert (λ (y : WaitEntry). slot_at OfMembers y.wait) ws f _
               ∙ insert_same (slots_at OfMembers ws) f None (seen-at (λ (x : WaitEntry). slot_at OfMembers x.wait) ws f y there ∙ ap (λ x. Some (slot_at OfMembers x)) mine))) (still OfMembers)
-          at (waits.Members slot) mine OfMembers = subst (λ m. SetLinked (with_waker e.point.receivers.waiting slot (record { future = f; waker = w })) m (i + 1)) (sym (seen-insert (λ (y : WaitEntry). slot_at OfMembers y.wait) ws f _))
+          at (waits.Members slot) mine OfMembers = subst (λ m. SetLinked (with_waker e.point.receivers.waiting slot (record { name = f; waker = w })) m (i + 1)) (sym (seen-insert (λ (y : WaitEntry). slot_at OfMembers y.wait) ws f _))
               (linked_later _ _ n (i + 1) (registered_links e.point.receivers.waiting (slots_at OfMembers ws) n f w slot (a.linked OfMembers) (seen-at (λ (x : WaitEntry). slot_at OfMembers x.wait) ws f y there ∙ ap (λ x. Some (slot_at OfMembers x)) mine)) (omega (arith, later)))
           at (waits.Members slot) mine OfSignal = subst (λ m. SetLinked e.point.signal.waiting m (i + 1)) (sym (seen-insert (λ (y : WaitEntry). slot_at OfSignal y.wait) ws f _
               ∙ insert_same (slots_at OfSignal ws) f None (seen-at (λ (x : WaitEntry). slot_at OfSignal x.wait) ws f y there ∙ ap (λ x. Some (slot_at OfSignal x)) mine))) (still OfSignal)

@@ -59,12 +59,12 @@ impl BarrierEntry {
         requires quiet { self.old.core.wakes ≡ [] }
         requires few { self.old.core.arrivals < 18446744073709551615 }
         requires room { length self.old.core.waiting.wakers ≤ ready.old.registered }
-        ensures turns { IfOk result (λ turn. Turns self.old wait.old (record { future = f; waker = waker }) turn self.new wait.new ready.old ready.new) }
+        ensures turns { IfOk result (λ turn. Turns self.old wait.old (record { name = f; waker = waker }) turn self.new wait.new ready.old ready.new) }
         ensures err { OnErr result ((self.new ≡ self.old) × (wait.new ≡ wait.old) × (ready.new ≡ ready.old)) }
     {
         ready.register()?;
         let before = self.core.registered();
-        match self.core.poll(wait, NamedWaker { future: f, waker }) {
+        match self.core.poll(wait, NamedWaker { name: f, waker }) {
             Err(_) => {
                 ready.unregister(1);
                 Err(NoMemory)

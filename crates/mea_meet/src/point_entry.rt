@@ -168,12 +168,12 @@ impl<C: CountCore> PointEntry<C> {
         ready: &mut Ready<u64>,
     ) -> Result<Poll<()>, NoMemory>
         requires { has_given (count_at (end_of wait.old) self.old.point).waiting (slot_of wait.old) ≡ true }
-        ensures polls { IfOk result (λ turn. Polled self.old wait.old (record { future = f; waker = waker }) turn self.new wait.new ready.old ready.new) }
+        ensures polls { IfOk result (λ turn. Polled self.old wait.old (record { name = f; waker = waker }) turn self.new wait.new ready.old ready.new) }
         ensures err { OnErr result ((self.new ≡ self.old) × (wait.new ≡ wait.old) × (ready.new ≡ ready.old)) }
     {
         ready.register()?;
         let before = self.registered_for(wait);
-        let Ok(turn) = self.poll_core(wait, NamedWaker { future: f, waker }) else {
+        let Ok(turn) = self.poll_core(wait, NamedWaker { name: f, waker }) else {
             ready.unregister(1);
             return Err(NoMemory);
         };

@@ -39,12 +39,12 @@ module _ (once : Bool) (e : KeptCell) (fs : Names FutureEntry) (kept : AreKept o
   -- whose initialiser keeps a waker holds the permit, unless it uses the cell alone
   pub keeper_holds : (r : Option NamedWaker) → e.running ≡ r → (f w : ℕ) (y : CellFuture) → waker_for (runner_of r) f ≡ Some w → get (seen future_seen fs) f ≡ Some y → is_alone y.errand ≡ false → held_of e.cell.permit ≡ 1
   keeper_holds None is f w y keeps there shared = absurd (cc)
-  keeper_holds (Some k) is f w y keeps there shared = at (k.future == f) refl keeps
+  keeper_holds (Some k) is f w y keeps there shared = at (k.name == f) refl keeps
     where
-      at : (b : Bool) → (k.future == f) ≡ b → cond b (Some k.waker) None ≡ Some w → held_of e.cell.permit ≡ 1
+      at : (b : Bool) → (k.name == f) ≡ b → cond b (Some k.waker) None ≡ Some w → held_of e.cell.permit ≡ 1
       at true same it =
           let x = kept.tied.runner k is in
-          let here : get fs f ≡ Some x.0 = ap (get fs) (sym (eqb-true k.future f same)) ∙ x.1 in
+          let here : get fs f ≡ Some x.0 = ap (get fs) (sym (eqb-true k.name f same)) ∙ x.1 in
           let one = seen-back future_seen fs f y there in
           let mine : x.0 ≡ one.0 = inside (sym here ∙ one.1) in
           let alone : is_alone x.0.errand ≡ false = ap (λ (z : FutureEntry). is_alone z.errand) mine ∙ ap (λ (z : CellFuture). is_alone z.errand) one.2 ∙ shared in

@@ -89,9 +89,9 @@ module _ (once : Bool) (e : KeptTable) (f w : ℕ) (x : KeyFuture) (i : ℕ) (s 
 
       at : (o : Option NamedWaker) → r.running ≡ o → runs o f ≡ false
       at None is = refl
-      at (Some k) is = ne_eqb k.future f (λ same.
+      at (Some k) is = ne_eqb k.name f (λ same.
           let one = it.kept.tied.runner k is in
-          absurd (let none : get (callers_of n s.fs) k.future ≡ None = ap (get (callers_of n s.fs)) same ∙ not_of once e f x i s of n in let some = one.1 in cc))
+          absurd (let none : get (callers_of n s.fs) k.name ≡ None = ap (get (callers_of n s.fs)) same ∙ not_of once e f x i s of n in let some = one.1 in cc))
 
   -- its own initialiser keeps none
   abbrev pub IsIdle : Type 0

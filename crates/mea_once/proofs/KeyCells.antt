@@ -41,7 +41,7 @@ abbrev pub cell_of : CoreCell ℕ NamedWaker → Option NamedWaker → ℕ → K
 cell_of c r n = record { cell = cell_seen c; running = r; futures = n; alone = 0 }
 
 abbrev pub named : ℕ → ℕ → NamedWaker
-named f w = record { future = f; waker = w }
+named f w = record { name = f; waker = w }
 
 module _ (c : CoreCell ℕ NamedWaker) (run : Option NamedWaker) (count f o : ℕ) (r : Initialiser) (stage : CellStage) (s : Stands false (cell_of c run count) f (caller_at o r stage)) where
   abbrev K : KeptCell

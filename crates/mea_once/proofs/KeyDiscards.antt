@@ -35,11 +35,11 @@ use Rattle.mea_once.specs.Parts as parts
 -- ---- the waker that is kept
 pub waking_none : (r : Option NamedWaker) (f : ℕ) (before : Waking ℕ) → stopped_waker r f ≡ None → waking r f before ≡ before
 waking_none None f before is = refl
-waking_none (Some k) f before is = elim (k.future == f) as (λ b. cond b (Some k.waker) None ≡ None → cond b (record { wakers = before.wakers ++ k.waker ∷ []; registered = before.registered - 1 }) before ≡ before) [ true ↦ λ none. absurd (cc) | false ↦ λ none. refl ] is
+waking_none (Some k) f before is = elim (k.name == f) as (λ b. cond b (Some k.waker) None ≡ None → cond b (record { wakers = before.wakers ++ k.waker ∷ []; registered = before.registered - 1 }) before ≡ before) [ true ↦ λ none. absurd (cc) | false ↦ λ none. refl ] is
 
 pub waking_some : (r : Option NamedWaker) (f w : ℕ) (before : Waking ℕ) → stopped_waker r f ≡ Some w → waking r f before ≡ record { wakers = before.wakers ++ w ∷ []; registered = before.registered - 1 }
 waking_some None f w before is = absurd (cc)
-waking_some (Some k) f w before is = elim (k.future == f) as (λ b. cond b (Some k.waker) None ≡ Some w → cond b (record { wakers = before.wakers ++ k.waker ∷ []; registered = before.registered - 1 }) before ≡ record { wakers = before.wakers ++ w ∷ []; registered = before.registered - 1 }) [
+waking_some (Some k) f w before is = elim (k.name == f) as (λ b. cond b (Some k.waker) None ≡ Some w → cond b (record { wakers = before.wakers ++ k.waker ∷ []; registered = before.registered - 1 }) before ≡ record { wakers = before.wakers ++ w ∷ []; registered = before.registered - 1 }) [
   | true ↦ λ same. ap (λ v. record { wakers = before.wakers ++ v ∷ []; registered = before.registered - 1 }) (inside same)
   | false ↦ λ none. absurd (cc)
 ] is

@@ -72,7 +72,7 @@ count_callers n m = total-alike (λ k (x : KeyFuture). cond (is_this n x.round) 
 
 -- where nobody is a caller, no initialiser keeps a waker
 pub nobody_keeps : (K : KeptCell) (fs : Names FutureEntry) → AreKept false K fs → K.futures ≡ 0 → K.running ≡ None
-nobody_keeps K fs kept none = none_if K.running (λ k is. absurd (let it = kept.tied.runner k is in let some = len-some fs k.future it.0 it.1 in let all = kept.tied.futures in omega arith))
+nobody_keeps K fs kept none = none_if K.running (λ k is. absurd (let it = kept.tied.runner k is in let some = len-some fs k.name it.0 it.1 in let all = kept.tied.futures in omega arith))
 
 -- ---- what the model makes of a table
 pub left_current : (k n o : ℕ) (t : Table) → (tables.left k n o t).current ≡ cond (o == 0) (current_without t.current k n) t.current

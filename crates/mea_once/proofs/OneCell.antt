@@ -92,11 +92,11 @@ length-without ((Owes, l) ∷ q) n = omega (arith, length-without q n)
 -- ---- who waits elsewhere
 pub runner_waits : (r : Option NamedWaker) (f : ℕ) → waits (runner_of r) f ≡ runs r f
 runner_waits None f = refl
-runner_waits (Some k) f = elim (k.future == f) as (λ b. is_some (cond b (Some k.waker) None) ≡ b) [ true ↦ refl | false ↦ refl ]
+runner_waits (Some k) f = elim (k.name == f) as (λ b. is_some (cond b (Some k.waker) None) ≡ b) [ true ↦ refl | false ↦ refl ]
 
 pub runner_without : (r : Option NamedWaker) (f : ℕ) → without (runner_of r) f ≡ runner_of (cond (runs r f) None r)
 runner_without None f = refl
-runner_without (Some k) f = elim (k.future == f) as (λ b. cond b [] ((k.future, k.waker) ∷ []) ≡ runner_of (cond b None (Some k))) [ true ↦ refl | false ↦ refl ]
+runner_without (Some k) f = elim (k.name == f) as (λ b. cond b [] ((k.name, k.waker) ∷ []) ≡ runner_of (cond b None (Some k))) [ true ↦ refl | false ↦ refl ]
 
 pub absent_waits : (ks : List NamedWaker) (f : ℕ) → IsAbsent ks f → waits (names_of ks) f ≡ false
 absent_waits [] f absent = refl
@@ -167,7 +167,7 @@ module _ (once : Bool) (e : KeptCell) (fs : Names FutureEntry) (tied : Tied once
       at None is run = absurd (cc)
       at (Some k) is run =
           let it = tied.runner k is in
-          let same : it.0 ≡ x = inside (sym it.1 ∙ ap (get fs) (eqb-true k.future f run) ∙ there) in
+          let same : it.0 ≡ x = inside (sym it.1 ∙ ap (get fs) (eqb-true k.name f run) ∙ there) in
           subst MayRun same it.2
 
   pub runs_not : is_alone x.errand ≡ false → is_running x ≡ false → runs e.running f ≡ false
@@ -192,7 +192,7 @@ module _ (once : Bool) (e : KeptCell) (fs : Names FutureEntry) (tied : Tied once
           omega (arith, tied.held, held, had, count-put fs f is_running y);
       runner = λ k is. let it = tied.runner k (runner k is) in
           by_put fs f y (λ g o. (z : FutureEntry) → get fs g ≡ Some z → MayRun z → (v : FutureEntry) × (o ≡ Some v) × MayRun v)
-          (λ z is run. (y, refl, may (subst MayRun (inside (sym is ∙ there)) run))) (λ g apart z is run. (z, is, run)) k.future it.0 it.1 it.2;
+          (λ z is run. (y, refl, may (subst MayRun (inside (sym is ∙ there)) run))) (λ g apart z is run. (z, is, run)) k.name it.0 it.1 it.2;
       each = each;
       single = λ g j a b one two alone. let first = before g a one in let second = before j b two in tied.single g j first.0 second.0 first.1 second.1 (first.2 ∙ alone);
       futures = omega (arith, tied.futures, len-over fs f y x there);
@@ -224,23 +224,23 @@ module _ (once : Bool) (e : KeptCell) (fs : Names FutureEntry) (tied : Tied once
     alone = omega (arith, tied.alone, count-gone fs f (λ (x : FutureEntry). is_alone x.errand) x there);
   }
     where
-      kept : (r : Option NamedWaker) → e.running ≡ r → (k : NamedWaker) → cond (runs r f) None r ≡ Some k → (y : FutureEntry) × (get (remove fs f) k.future ≡ Some y) × MayRun y
+      kept : (r : Option NamedWaker) → e.running ≡ r → (k : NamedWaker) → cond (runs r f) None r ≡ Some k → (y : FutureEntry) × (get (remove fs f) k.name ≡ Some y) × MayRun y
       kept None is k it = absurd (cc)
-      kept (Some j) is k it = at (j.future == f) refl it
+      kept (Some j) is k it = at (j.name == f) refl it
         where
-          at : (b : Bool) → (j.future == f) ≡ b → cond b None (Some j) ≡ Some k → (y : FutureEntry) × (get (remove fs f) k.future ≡ Some y) × MayRun y
+          at : (b : Bool) → (j.name == f) ≡ b → cond b None (Some j) ≡ Some k → (y : FutureEntry) × (get (remove fs f) k.name ≡ Some y) × MayRun y
           at true mine it = absurd (cc)
           at false other it =
               let same : j ≡ k = inside it in
               let had = tied.runner k (is ∙ it) in
-              (had.0, get-removed_other fs f k.future (λ same_name. absurd (let yes : (j.future == f) ≡ true = eq-eqb j.future f (ap (λ (k : NamedWaker). k.future) same ∙ sym same_name) in cc)) ∙ had.1, had.2)
+              (had.0, get-removed_other fs f k.name (λ same_name. absurd (let yes : (j.name == f) ≡ true = eq-eqb j.name f (ap (λ (k : NamedWaker). k.name) same ∙ sym same_name) in cc)) ∙ had.1, had.2)
 
   -- ---- it keeps a waker while its initialiser is not settled
-  pub keeps_waker : (k : NamedWaker) → k.future ≡ f → MayRun x → Tied once (record e { running = Some k }) fs
+  pub keeps_waker : (k : NamedWaker) → k.name ≡ f → MayRun x → Tied once (record e { running = Some k }) fs
   keeps_waker k mine may = record {
     linked = tied.linked;
     held = tied.held;
-    runner = λ j is. let same : k ≡ j = inside is in (x, ap (get fs) (sym (ap (λ (k : NamedWaker). k.future) same) ∙ mine) ∙ there, may);
+    runner = λ j is. let same : k ≡ j = inside is in (x, ap (get fs) (sym (ap (λ (k : NamedWaker). k.name) same) ∙ mine) ∙ there, may);
     each = tied.each;
     single = tied.single;
     futures = tied.futures;
@@ -251,15 +251,15 @@ module _ (once : Bool) (e : KeptCell) (fs : Names FutureEntry) (tied : Tied once
   pub nobody_runs : runs e.running f ≡ false → MayRun x → held_of e.cell.permit ≤ 1 → e.running ≡ None
   nobody_runs out may few = none_if e.running (λ k is.
       let it = tied.runner k is in
-      both_run k (λ same. absurd (let yes : runs e.running f ≡ true = ap (λ r. runs r f) is ∙ eq-eqb k.future f same in cc)) it.0 it.1 (is_alone x.errand) (is_alone it.0.errand) refl refl may it.2)
+      both_run k (λ same. absurd (let yes : runs e.running f ≡ true = ap (λ r. runs r f) is ∙ eq-eqb k.name f same in cc)) it.0 it.1 (is_alone x.errand) (is_alone it.0.errand) refl refl may it.2)
     where
-      both_run : (k : NamedWaker) → (k.future ≡ f → ⊥) → (z : FutureEntry) → get fs k.future ≡ Some z → (a b : Bool) → is_alone x.errand ≡ a → is_alone z.errand ≡ b → cond a true (is_running x) ≡ true → cond b true (is_running z) ≡ true → ⊥
-      both_run k other z is true b alone_x alone_z run_x run_z = other (sym (tied.single f k.future x z there is alone_x))
-      both_run k other z is false true alone_x alone_z run_x run_z = other (tied.single k.future f z x is there alone_z)
+      both_run : (k : NamedWaker) → (k.name ≡ f → ⊥) → (z : FutureEntry) → get fs k.name ≡ Some z → (a b : Bool) → is_alone x.errand ≡ a → is_alone z.errand ≡ b → cond a true (is_running x) ≡ true → cond b true (is_running z) ≡ true → ⊥
+      both_run k other z is true b alone_x alone_z run_x run_z = other (sym (tied.single f k.name x z there is alone_x))
+      both_run k other z is false true alone_x alone_z run_x run_z = other (tied.single k.name f z x is there alone_z)
       both_run k other z is false false alone_x alone_z run_x run_z =
           let one : ◌≡◌ {A = ℕ} (cond (is_running x) 1 0) 1 = ap (λ b. cond b 1 0) run_x in
           let two : ◌≡◌ {A = ℕ} (cond (is_running z) 1 0) 1 = ap (λ b. cond b 1 0) run_z in
-          let rest = total-has (λ k (x : FutureEntry). cond (is_running x) 1 0) (remove fs f) k.future z (get-removed_other fs f k.future (λ same. other (sym same)) ∙ is) in
+          let rest = total-has (λ k (x : FutureEntry). cond (is_running x) 1 0) (remove fs f) k.name z (get-removed_other fs f k.name (λ same. other (sym same)) ∙ is) in
           absurd (omega (arith, few, tied.held, one, two, rest, count-gone fs f is_running x there))
 
 -- ---- what is granted does not wait
@@ -282,7 +282,7 @@ begins once e fs f x tied none fit new unplaced absent whole shared =
           (linked_begun e.cell.permit.queue e.cell.permit.granted (seen acquire_of fs) tied.linked f (subst IsUnqueued (sym (seen-none acquire_of fs f none)) tt) 1);
       held = omega (arith, tied.held, no_turn, count-new fs f is_running x none);
       runner = λ k is. let it = tied.runner k is in
-          by_put fs f x (λ g o. (z : FutureEntry) → get fs g ≡ Some z → MayRun z → (v : FutureEntry) × (o ≡ Some v) × MayRun v) (λ z is may. absurd (cc)) (λ g apart z is may. (z, is, may)) k.future it.0 it.1 it.2;
+          by_put fs f x (λ g o. (z : FutureEntry) → get fs g ≡ Some z → MayRun z → (v : FutureEntry) × (o ≡ Some v) × MayRun v) (λ z is may. absurd (cc)) (λ g apart z is may. (z, is, may)) k.name it.0 it.1 it.2;
       each = by_put fs f x (λ g o. (z : FutureEntry) → o ≡ Some z → IsFuture once e.cell.waits g z)
           (λ z is. subst (IsFuture once e.cell.waits f) (inside is) (record { fits = fit; stage = subst (StageFits (is_caller x.errand)) (sym new) (new_fits (is_caller x.errand)); slot = subst (SlotIs e.cell.waits f) (sym unplaced) (record { given = refl; stands = λ h. absurd (cc); absent = λ h. absent }); place = λ h. unplaced }))
           (λ g apart z is. tied.each g z is);
@@ -332,7 +332,7 @@ holds_none m none = same_named m empty (λ k. is_absent (get m k) (λ some. let 
 -- where no acquire waits under a number, nobody waits
 pub nobody_queued : (q : Queue) (acquires : Names Acquire) → AskForOne q → AreOf acquires q → ((f d n : ℕ) → get acquires f ≡ Some (acquire.Queued d n) → ⊥) → q ≡ []
 nobody_queued [] acquires asks are none = refl
-nobody_queued ((Acquires n d k, l) ∷ q) acquires asks are none = absurd (none k.future d n are.0)
+nobody_queued ((Acquires n d k, l) ∷ q) acquires asks are none = absurd (none k.name d n are.0)
 nobody_queued ((Owes, l) ∷ q) acquires asks are none = absurd asks
 
 module _ (once : Bool) (e : KeptCell) (fs : Names FutureEntry) (kept : AreKept once e fs) (none : e.futures ≡ 0) where

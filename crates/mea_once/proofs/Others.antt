@@ -41,7 +41,7 @@ use Rattle.mea_once.proofs.Steps.{Makes, handed, out_of_queue, out_of_waits, cal
 -- ---- an initialiser that keeps a waker
 runner_with : (r : Option NamedWaker) (f w : ℕ) → runs r f ≡ true → with_waker (runner_of r) f w ≡ (f, w) ∷ []
 runner_with None f w is = absurd (cc)
-runner_with (Some k) f w is = λ i. (eqb-true k.future f is i, ap (λ b. cond b w k.waker) is i) ∷ []
+runner_with (Some k) f w is = λ i. (eqb-true k.name f is i, ap (λ b. cond b w k.waker) is i) ∷ []
 
 one_runs : (r : Option NamedWaker) (f : ℕ) → runs r f ≡ true → of_running r ≡ 1
 one_runs None f is = absurd (cc)
@@ -65,7 +65,7 @@ module _ (once : Bool) (e : KeptCell) (f : ℕ) (x : FutureEntry) (s : Stands on
 
   -- it is polled again
   pub rewakes : (w : ℕ) (before : Waking ℕ) → runs e.running f ≡ true
-      → Stepped once e s.fs s.n f x.cell (Some x) (model.poll f w (future_seen x) (cell_seen e)) answers.Pending (record e { running = Some (record { future = f; waker = w }) }) before before
+      → Stepped once e s.fs s.n f x.cell (Some x) (model.poll f w (future_seen x) (cell_seen e)) answers.Pending (record e { running = Some (record { name = f; waker = w }) }) before before
   rewakes w before run =
       let may = runs_may once e s.fs s.kept.tied f x s.there run in
       let polled : model.poll f w (future_seen x) (cell_seen e) ≡ model.pends (future_seen x) (record (cell_seen e) { runner = with_waker (runner_of e.running) f w }) =
@@ -77,7 +77,7 @@ module _ (once : Bool) (e : KeptCell) (f : ℕ) (x : FutureEntry) (s : Stands on
         mine = refl;
         woken = sym (append-nil before.wakers);
         counted = omega (arith, one_runs e.running f run);
-        kept = record { sound = s.kept.sound; quiet = s.kept.quiet; tied = rw (insert_same s.fs f x s.there) (keeps_waker once e s.fs s.kept.tied f x s.there (record { future = f; waker = w }) refl may) };
+        kept = record { sound = s.kept.sound; quiet = s.kept.quiet; tied = rw (insert_same s.fs f x s.there) (keeps_waker once e s.fs s.kept.tied f x s.there (record { name = f; waker = w }) refl may) };
         few = omega arith;
         low = s.low;
       })
@@ -85,14 +85,14 @@ module _ (once : Bool) (e : KeptCell) (f : ℕ) (x : FutureEntry) (s : Stands on
   -- ---- it is settled
   waking_more : (r : Option NamedWaker) (before : Waking ℕ) → (waking r f before).wakers ≡ before.wakers ++ option_to_list (waker_for (runner_of r) f)
   waking_more None before = sym (append-nil before.wakers)
-  waking_more (Some k) before = elim (k.future == f) as (λ b. (cond b (record { wakers = before.wakers ++ k.waker ∷ []; registered = before.registered - 1 }) before).wakers ≡ before.wakers ++ option_to_list (cond b (Some k.waker) None)) [
+  waking_more (Some k) before = elim (k.name == f) as (λ b. (cond b (record { wakers = before.wakers ++ k.waker ∷ []; registered = before.registered - 1 }) before).wakers ≡ before.wakers ++ option_to_list (cond b (Some k.waker) None)) [
     | true ↦ refl
     | false ↦ sym (append-nil before.wakers)
   ]
 
   waking_less : (r : Option NamedWaker) (before : Waking ℕ) → of_running r ≤ before.registered → (waking r f before).registered + of_running r ≡ before.registered + of_running (cond (runs r f) None r)
   waking_less None before room = refl
-  waking_less (Some k) before room = elim (k.future == f) as (λ b. (cond b (record { wakers = before.wakers ++ k.waker ∷ []; registered = before.registered - 1 }) before).registered + 1 ≡ before.registered + of_running (cond b None (Some k))) [
+  waking_less (Some k) before room = elim (k.name == f) as (λ b. (cond b (record { wakers = before.wakers ++ k.waker ∷ []; registered = before.registered - 1 }) before).registered + 1 ≡ before.registered + of_running (cond b None (Some k))) [
     | true ↦ omega (arith, room)
     | false ↦ refl
   ]
@@ -107,7 +107,7 @@ module _ (once : Bool) (e : KeptCell) (f : ℕ) (x : FutureEntry) (s : Stands on
 
     kept_runner : (k : NamedWaker) (q : Option NamedWaker) → e.running ≡ q → cond (runs q f) None q ≡ Some k → e.running ≡ Some k
     kept_runner k None is it = absurd (cc)
-    kept_runner k (Some j) is it = at (j.future == f) it
+    kept_runner k (Some j) is it = at (j.name == f) it
       where
         at : (b : Bool) → cond b None (Some j) ≡ Some k → e.running ≡ Some k
         at true it = absurd (cc)
@@ -170,7 +170,7 @@ module _ (once : Bool) (e : KeptCell) (f : ℕ) (x : FutureEntry) (s : Stands on
 
   module _ (w : ℕ) (wait : is_wait x.errand ≡ true) where
     abbrev k : NamedWaker
-    k = record { future = f; waker = w }
+    k = record { name = f; waker = w }
 
     abbrev Polls : Step
     Polls = model.poll f w (future_seen x) (cell_seen e)
@@ -252,7 +252,7 @@ module _ (once : Bool) (e : KeptCell) (f : ℕ) (x : FutureEntry) (s : Stands on
   -- ---- a future that uses its cell alone
   module _ (w : ℕ) (alone : is_alone x.errand ≡ true) (idle : runs e.running f ≡ false) where
     abbrev j : NamedWaker
-    j = record { future = f; waker = w }
+    j = record { name = f; waker = w }
 
     abbrev Alone_polls : Step
     Alone_polls = model.poll f w (future_seen x) (cell_seen e)
@@ -364,12 +364,12 @@ module _ (once : Bool) (e : KeptCell) (f : ℕ) (x : FutureEntry) (s : Stands on
 
 -- ---- the calls of the entry
 pub wait_fits : (once : Bool) (e : KeptCell) (f w : ℕ) (x : FutureEntry) (over : Bool) (c : NamedCell) (slot : Option Place) (e2 : KeptCell) (more : ℕ) → Stands once e f x → is_wait x.errand ≡ true → (is_some e.cell.value ≡ true → length e.cell.waits.wakers ≡ 0)
-    → WaitsCell e.cell x.wait (record { future = f; waker = w }) over c slot → IsSoundCell c → e2 ≡ cond over (finished (stopped (record e { cell = c }) f) x.errand) (record e { cell = c }) → more ≡ keeps e + 1 → keeps e2 + length e2.cell.permit.wakes ≤ more
+    → WaitsCell e.cell x.wait (record { name = f; waker = w }) over c slot → IsSoundCell c → e2 ≡ cond over (finished (stopped (record e { cell = c }) f) x.errand) (record e { cell = c }) → more ≡ keeps e + 1 → keeps e2 + length e2.cell.permit.wakes ≤ more
 wait_fits once e f w x true c slot e2 more s wait drained is sound made all = rw (made, all, is.1) (waits_over once e f x s w wait is.0 drained).fit
 wait_fits once e f w x false c slot e2 more s wait drained is sound made all = rw (made, all, is.1) (waits_make once e f x s w wait is.0 (rw is.1 at sound)).fit
 
 pub wait_steps : (once : Bool) (e : KeptCell) (f w : ℕ) (x : FutureEntry) (over : Bool) (c : NamedCell) (slot : Option Place) (e2 new : KeptCell) (more : ℕ) (before ready after : Waking ℕ) (s : Stands once e f x) → is_wait x.errand ≡ true → (is_some e.cell.value ≡ true → length e.cell.waits.wakers ≡ 0)
-    → WaitsCell e.cell x.wait (record { future = f; waker = w }) over c slot → IsSoundCell c → e2 ≡ cond over (finished (stopped (record e { cell = c }) f) x.errand) (record e { cell = c }) → more ≡ keeps e + 1
+    → WaitsCell e.cell x.wait (record { name = f; waker = w }) over c slot → IsSoundCell c → e2 ≡ cond over (finished (stopped (record e { cell = c }) f) x.errand) (record e { cell = c }) → more ≡ keeps e + 1
     → ready ≡ record before { registered = before.registered + 1 } → HandsOn e2 new more ready after
     → Stepped once e s.fs s.n f x.cell (left_by over (record x { wait = slot })) (model.poll f w (future_seen x) (cell_seen e)) (cond over answers.Ready answers.Pending) new before after
 wait_steps once e f w x true c slot e2 new more before ready after s wait drained is sound made all grown hands =
@@ -380,7 +380,7 @@ wait_steps once e f w x false c slot e2 new more before ready after s wait drain
     (ap (λ (r : Waking ℕ). r.wakers) grown) (ap (λ (r : Waking ℕ). r.registered) grown))
 
 abbrev waker_of : ℕ → ℕ → NamedWaker
-waker_of f w = record { future = f; waker = w }
+waker_of f w = record { name = f; waker = w }
 
 -- a future that uses its cell alone ran
 alone_ran : (once : Bool) (e : KeptCell) (f w : ℕ) (x : FutureEntry) (s : Stands once e f x) (alone : is_alone x.errand ≡ true) (idle : runs e.running f ≡ false) (v : Option ℕ) (r : Initialiser) (told : PollReply) (e2 : KeptCell) → e.cell.value ≡ v → init_of x.errand ≡ r → length e.cell.waits.wakers ≡ 0

@@ -89,7 +89,7 @@ names-woken (k ∷ ks) = ap (λ ws. k.waker ∷ ws) (names-woken ks)
 
 stop_few : (r : Option NamedWaker) (f : ℕ) → of_running (cond (runs r f) None r) ≤ of_running r
 stop_few None f = omega arith
-stop_few (Some k) f = elim (k.future == f) as (λ b. of_running (cond b None (Some k)) ≤ 1) [ true ↦ omega arith | false ↦ omega arith ]
+stop_few (Some k) f = elim (k.name == f) as (λ b. of_running (cond b None (Some k)) ≤ 1) [ true ↦ omega arith | false ↦ omega arith ]
 
 -- ---- a cell, its futures, and one of them
 module _ (once : Bool) (e : KeptCell) (f : ℕ) (x : FutureEntry) (s : Stands once e f x) where
@@ -231,7 +231,7 @@ module _ (once : Bool) (e : KeptCell) (f : ℕ) (x : FutureEntry) (s : Stands on
     y = record x { stage = Running }
 
     abbrev waker : NamedWaker
-    waker = record { future = f; waker = w }
+    waker = record { name = f; waker = w }
 
     its_turn : held_at x.stage ≤ held_of permit
     its_turn = omega (arith, tie.held, held_is x.stage, total-has (λ k (x : FutureEntry). cond (is_running x) 1 0) s.fs f x s.there)
@@ -289,7 +289,7 @@ module _ (once : Bool) (e : KeptCell) (f : ℕ) (x : FutureEntry) (s : Stands on
   -- ---- a poll of a caller whose initialiser keeps no waker
   module _ (caller : is_caller x.errand ≡ true) (w : ℕ) (idle : runs e.running f ≡ false) where
     abbrev k : NamedWaker
-    k = record { future = f; waker = w }
+    k = record { name = f; waker = w }
 
     abbrev Polled : CellTurn NamedWaker → Core NamedWaker → CellStage → Type 0
     Polled turn p t = HoldsAs permit x.stage p t → IsSoundCell (record e.cell { permit = p }) → (told : PollReply) (e2 : KeptCell) → Follows turn (record e { cell = record e.cell { permit = p } }) k x.errand told e2
@@ -479,11 +479,11 @@ end_steps once e e2 new f x c more before after s left is all hands =
 
 -- a caller whose initialiser keeps no waker was polled
 pub polled_fits : (once : Bool) (e e2 : KeptCell) (f w : ℕ) (x : FutureEntry) (turn : CellTurn NamedWaker) (c : NamedCell) (t : CellStage) (told : PollReply) (more : ℕ) → Stands once e f x → is_caller x.errand ≡ true → runs e.running f ≡ false
-    → TurnsCell e.cell x.stage (record { future = f; waker = w }) turn c t → Follows turn (record e { cell = c }) (record { future = f; waker = w }) x.errand told e2 → more ≡ keeps e + 1 → keeps e2 + length e2.cell.permit.wakes ≤ more
+    → TurnsCell e.cell x.stage (record { name = f; waker = w }) turn c t → Follows turn (record e { cell = c }) (record { name = f; waker = w }) x.errand told e2 → more ≡ keeps e + 1 → keeps e2 + length e2.cell.permit.wakes ≤ more
 polled_fits once e e2 f w x turn c t told more s caller idle turned_as follows all = rw all (polls_make once e f x s caller w idle turn c t turned_as told e2 follows).fit
 
 pub polled_steps : (once : Bool) (e e2 new : KeptCell) (f w : ℕ) (x y : FutureEntry) (turn : CellTurn NamedWaker) (c : NamedCell) (t : CellStage) (told : PollReply) (more : ℕ) (before ready after : Waking ℕ) (s : Stands once e f x) → is_caller x.errand ≡ true → runs e.running f ≡ false
-    → TurnsCell e.cell x.stage (record { future = f; waker = w }) turn c t → Follows turn (record e { cell = c }) (record { future = f; waker = w }) x.errand told e2 → (told.over ≡ false → y ≡ record x { stage = t }) → more ≡ keeps e + 1
+    → TurnsCell e.cell x.stage (record { name = f; waker = w }) turn c t → Follows turn (record e { cell = c }) (record { name = f; waker = w }) x.errand told e2 → (told.over ≡ false → y ≡ record x { stage = t }) → more ≡ keeps e + 1
     → ready ≡ record before { registered = before.registered + 1 } → HandsOn e2 new more ready after → Stepped once e s.fs s.n f x.cell (left_by told.over y) (model.poll f w (future_seen x) (cell_seen e)) told.answer new before after
 polled_steps once e e2 new f w x y turn c t told more before ready after s caller idle turned_as follows stays all grown hands =
     rw (same told.over stays) (handed once e s.fs s.n f x.cell 1 told.answer (left_by told.over (record x { stage = t })) (model.poll f w (future_seen x) (cell_seen e)) e2 new before ready after

@@ -41,11 +41,11 @@ use Rattle.mea_once.proofs.KeyCalls.{seen_round}
 -- who waits under a name has its acquire in the queue
 named_queued : (acquires : Names Acquire) (q : Queue) → AskForOne q → AreOf acquires q → (f w : ℕ) → waker_for (who (names_in q)) f ≡ Some w → (d : ℕ) × (n : ℕ) × (get acquires f ≡ Some (acquire.Queued d n))
 named_queued acquires [] asks are f w is = absurd (cc)
-named_queued acquires ((Acquires n d k, l) ∷ q) asks are f w is = at (named_queued acquires q asks.2 are.1 f w) (k.future == f) refl is
+named_queued acquires ((Acquires n d k, l) ∷ q) asks are f w is = at (named_queued acquires q asks.2 are.1 f w) (k.name == f) refl is
   where
-    at : (waker_for (who (names_in q)) f ≡ Some w → (d : ℕ) × (n : ℕ) × (get acquires f ≡ Some (acquire.Queued d n))) → (b : Bool) → (k.future == f) ≡ b → cond b (Some k.waker) (waker_for (who (names_in q)) f) ≡ Some w
+    at : (waker_for (who (names_in q)) f ≡ Some w → (d : ℕ) × (n : ℕ) × (get acquires f ≡ Some (acquire.Queued d n))) → (b : Bool) → (k.name == f) ≡ b → cond b (Some k.waker) (waker_for (who (names_in q)) f) ≡ Some w
         → (d : ℕ) × (n : ℕ) × (get acquires f ≡ Some (acquire.Queued d n))
-    at rest true same it = (d, n, ap (get acquires) (sym (eqb-true k.future f same)) ∙ are.0)
+    at rest true same it = (d, n, ap (get acquires) (sym (eqb-true k.name f same)) ∙ are.0)
     at rest false other it = rest it
 named_queued acquires ((Owes, l) ∷ q) asks are f w is = absurd asks
 
@@ -132,12 +132,12 @@ module _ (once : Bool) (e : KeptCell) (fs : Names FutureEntry) (kept : AreKept o
 
   runs_on : (r : Option NamedWaker) → e.running ≡ r → (f w : ℕ) → waker_for (runner_of r) f ≡ Some w → (x : CellFuture) × (get (seen future_seen fs) f ≡ Some x) × ((has_turn (cell_seen e) f x ≡ true) ⊎ (is_alone x.errand ≡ true))
   runs_on None is f w runs = absurd (cc)
-  runs_on (Some k) is f w runs = at (k.future == f) refl runs
+  runs_on (Some k) is f w runs = at (k.name == f) refl runs
     where
-      at : (b : Bool) → (k.future == f) ≡ b → cond b (Some k.waker) None ≡ Some w → (x : CellFuture) × (get (seen future_seen fs) f ≡ Some x) × ((has_turn (cell_seen e) f x ≡ true) ⊎ (is_alone x.errand ≡ true))
+      at : (b : Bool) → (k.name == f) ≡ b → cond b (Some k.waker) None ≡ Some w → (x : CellFuture) × (get (seen future_seen fs) f ≡ Some x) × ((has_turn (cell_seen e) f x ≡ true) ⊎ (is_alone x.errand ≡ true))
       at true same it =
           let x = kept.tied.runner k is in
-          let there : get fs f ≡ Some x.0 = ap (get fs) (sym (eqb-true k.future f same)) ∙ x.1 in
+          let there : get fs f ≡ Some x.0 = ap (get fs) (sym (eqb-true k.name f same)) ∙ x.1 in
           (future_seen x.0, seen-at future_seen fs f x.0 there, may_turn f x.0 there (is_alone x.0.errand) refl x.2)
       at false other it = absurd (cc)
 

@@ -46,7 +46,7 @@ finished e errand = record e { futures = e.futures - 1; alone = e.alone - cond (
 -- whether the waker that is kept is that of f
 abbrev pub runs : Option NamedWaker → ℕ → Bool
 runs None f = false
-runs (Some k) f = k.future == f
+runs (Some k) f = k.name == f
 
 -- f's initialiser keeps none any more
 abbrev pub stopped : KeptCell → ℕ → KeptCell
@@ -55,7 +55,7 @@ stopped e f = record e { running = cond (runs e.running f) None e.running }
 -- the waker that f's initialiser keeps is ready
 abbrev pub waking : Option NamedWaker → ℕ → Waking ℕ → Waking ℕ
 waking None f r = r
-waking (Some k) f r = cond (k.future == f) (record { wakers = r.wakers ++ k.waker ∷ []; registered = r.registered - 1 }) r
+waking (Some k) f r = cond (k.name == f) (record { wakers = r.wakers ++ k.waker ∷ []; registered = r.registered - 1 }) r
 
 -- how many wakers are kept
 abbrev pub of_running : Option NamedWaker → ℕ
@@ -85,14 +85,14 @@ over reply = record { answer = reply; over = true }
 abbrev pub Ran : Initialiser → KeptCell → NamedWaker → Errand → PollReply → KeptCell → Type 0
 Ran Unsettled e k errand told e' = (told ≡ pending) × (e' ≡ record e { running = Some k })
 Ran (Gives v) e k errand told e' =
-    (c : NamedCell) × FillsCell e.cell v c × (told ≡ over (has_filled errand v)) × (e' ≡ finished (stopped (record e { cell = c }) k.future) errand)
+    (c : NamedCell) × FillsCell e.cell v c × (told ≡ over (has_filled errand v)) × (e' ≡ finished (stopped (record e { cell = c }) k.name) errand)
 Ran (Fails x) e k errand told e' =
-    (c : NamedCell) × GivesUpCell e.cell c × (told ≡ over (answers.Failure x)) × (e' ≡ finished (stopped (record e { cell = c }) k.future) errand)
+    (c : NamedCell) × GivesUpCell e.cell c × (told ≡ over (answers.Failure x)) × (e' ≡ finished (stopped (record e { cell = c }) k.name) errand)
 
 -- what follows from a poll for one's turn
 abbrev pub Follows : CellTurn NamedWaker → KeptCell → NamedWaker → Errand → PollReply → KeptCell → Type 0
 Follows turns.Pending e k errand told e' = (told ≡ pending) × (e' ≡ e)
-Follows turns.Full e k errand told e' = (v : ℕ) × (e.cell.value ≡ Some v) × (told ≡ over (found_full errand v)) × (e' ≡ finished (stopped e k.future) errand)
+Follows turns.Full e k errand told e' = (v : ℕ) × (e.cell.value ≡ Some v) × (told ≡ over (found_full errand v)) × (e' ≡ finished (stopped e k.name) errand)
 Follows (turns.Mine k') e k errand told e' = Ran (init_of errand) e k errand told e'
 
 -- a future after a poll, if it is there
@@ -102,8 +102,8 @@ left_by false x = Some x
 
 -- the initialiser of a future that uses the cell alone ran, where that was empty
 abbrev pub RanAlone : Option ℕ → Initialiser → KeptCell → NamedWaker → Errand → PollReply → KeptCell → Type 0
-RanAlone (Some v) r e k errand told e' = (told ≡ over (found_full errand v)) × (e' ≡ finished (stopped e k.future) errand)
+RanAlone (Some v) r e k errand told e' = (told ≡ over (found_full errand v)) × (e' ≡ finished (stopped e k.name) errand)
 RanAlone None Unsettled e k errand told e' = (told ≡ pending) × (e' ≡ record e { running = Some k })
 RanAlone None (Gives v) e k errand told e' =
-    (told ≡ over (found_full errand v)) × (e' ≡ finished (stopped (record e { cell = record e.cell { value = Some v } }) k.future) errand)
-RanAlone None (Fails x) e k errand told e' = (told ≡ over (answers.Failure x)) × (e' ≡ finished (stopped e k.future) errand)
+    (told ≡ over (found_full errand v)) × (e' ≡ finished (stopped (record e { cell = record e.cell { value = Some v } }) k.name) errand)
+RanAlone None (Fails x) e k errand told e' = (told ≡ over (answers.Failure x)) × (e' ≡ finished (stopped e k.name) errand)

@@ -130,4 +130,4 @@ with_running e n r k = record e { rounds = insert e.rounds n (record r { running
 -- the waker of f, where it is the one that is kept
 abbrev pub stopped_waker : Option NamedWaker → ℕ → Option ℕ
 stopped_waker None f = None
-stopped_waker (Some k) f = cond (k.future == f) (Some k.waker) None
+stopped_waker (Some k) f = cond (k.name == f) (Some k.waker) None

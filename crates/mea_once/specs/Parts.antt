@@ -35,7 +35,7 @@ is_polled _ = true
 
 abbrev pub runner_of : Option NamedWaker → Waiting
 runner_of None = []
-runner_of (Some k) = (k.future, k.waker) ∷ []
+runner_of (Some k) = (k.name, k.waker) ∷ []
 
 abbrev pub cell_seen : KeptCell → Cell
 cell_seen e =
@@ -112,7 +112,7 @@ MayRun x = cond (is_alone x.errand) true (is_running x) ≡ true
 pub record Tied (once : Bool) (e : KeptCell) (fs : Names FutureEntry) : Type 0 where
   pub linked : Linked e.cell.permit.queue e.cell.permit.granted (seen acquire_of fs)
   pub held : held_of e.cell.permit ≡ count is_running fs
-  pub runner : (k : NamedWaker) → e.running ≡ Some k → (x : FutureEntry) × (get fs k.future ≡ Some x) × MayRun x
+  pub runner : (k : NamedWaker) → e.running ≡ Some k → (x : FutureEntry) × (get fs k.name ≡ Some x) × MayRun x
   pub each : (f : ℕ) (x : FutureEntry) → get fs f ≡ Some x → IsFuture once e.cell.waits f x
   -- who uses the cell alone is alone
   pub single : (f g : ℕ) (x y : FutureEntry) → get fs f ≡ Some x → get fs g ≡ Some y → is_alone x.errand ≡ true → f ≡ g

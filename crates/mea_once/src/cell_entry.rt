@@ -112,7 +112,7 @@ impl<C: TurnCore> CellEntry<C> {
         ensures { result ≡ runs self.now.running f }
     {
         match self.running {
-            Some(kept) => kept.future == f,
+            Some(kept) => kept.name == f,
             None => false,
         }
     }
@@ -158,7 +158,7 @@ impl<C: TurnCore> CellEntry<C> {
             }
             Poll::Ready(Ok(value)) => {
                 self.core.fill(&mut future.stage, value);
-                self.finish(waker.future, future.errand);
+                self.finish(waker.name, future.errand);
                 PollReply {
                     answer: has_filled(future.errand, value),
                     over: true,
@@ -166,7 +166,7 @@ impl<C: TurnCore> CellEntry<C> {
             }
             Poll::Ready(Err(error)) => {
                 self.core.give_up(&mut future.stage);
-                self.finish(waker.future, future.errand);
+                self.finish(waker.name, future.errand);
                 PollReply {
                     answer: Reply(Word::Failure(error)),
                     over: true,
@@ -194,7 +194,7 @@ impl<C: TurnCore> CellEntry<C> {
             CellTurn::Pending => PENDING,
             CellTurn::Full => {
                 let value = self.core.value().unwrap();
-                self.finish(waker.future, future.errand);
+                self.finish(waker.name, future.errand);
                 PollReply {
                     answer: found_full(future.errand, value),
                     over: true,
@@ -217,7 +217,7 @@ impl<C: TurnCore> CellEntry<C> {
         requires room { keeps self.old ≤ ready.old.registered }
         ensures { PollsCell C.is_once self.old f future.old waker ready.old result self.new future.new ready.new }
     {
-        let named = NamedWaker { future: f, waker };
+        let named = NamedWaker { name: f, waker };
         if self.runs(f) {
             self.running = Some(named);
             return Ok(PENDING);
@@ -243,7 +243,7 @@ impl<C: TurnCore> CellEntry<C> {
         ensures ready { ready.new ≡ waking self.old.running f ready.old }
     {
         if let Some(kept) = self.running {
-            if kept.future == f {
+            if kept.name == f {
                 ready.wake(kept.waker);
                 self.running = None;
             }
@@ -325,7 +325,7 @@ impl<C: WaitCore> CellEntry<C> {
         let _room = ready.registered();
         let _waits = self.core.registered();
         let more = self.keeps(ready) + 1;
-        let named = NamedWaker { future: f, waker };
+        let named = NamedWaker { name: f, waker };
         let Ok(over) = self.core.poll_wait(&mut future.wait, named) else {
             ready.unregister(1);
             return Err(NoMemory);
@@ -355,14 +355,14 @@ impl<C: WholeCore> CellEntry<C> {
             }
             Poll::Ready(Ok(())) => {
                 let value = self.core.value().unwrap();
-                self.finish(waker.future, errand);
+                self.finish(waker.name, errand);
                 PollReply {
                     answer: found_full(errand, value),
                     over: true,
                 }
             }
             Poll::Ready(Err(error)) => {
-                self.finish(waker.future, errand);
+                self.finish(waker.name, errand);
                 PollReply {
                     answer: Reply(Word::Failure(error)),
                     over: true,
@@ -384,7 +384,7 @@ impl<C: WholeCore> CellEntry<C> {
         requires room { keeps self.old ≤ ready.old.registered }
         ensures { PollsCell C.TurnCore.is_once self.old f future.old waker ready.old result self.new future.new ready.new }
     {
-        let named = NamedWaker { future: f, waker };
+        let named = NamedWaker { name: f, waker };
         if self.runs(f) {
             self.running = Some(named);
             return Ok(PENDING);

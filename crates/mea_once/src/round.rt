@@ -32,7 +32,7 @@ impl Round {
         ensures { result ≡ runs self.now.running f }
     {
         match self.running {
-            Some(kept) => kept.future == f,
+            Some(kept) => kept.name == f,
             None => false,
         }
     }

@@ -322,7 +322,7 @@ impl<C: TableCore> TableEntry<C> {
             told.answer self.new ready.old ready.new) }
         ensures err { OnErr result (IsSameTable self.old self.new × (future.new ≡ future.old) × (ready.new ≡ ready.old)) }
     {
-        let named = NamedWaker { future: f, waker };
+        let named = NamedWaker { name: f, waker };
         let own = self.own_round(future.round);
         if runs(own, f) {
             if let Some(n) = future.round {
@@ -436,7 +436,7 @@ fn stopped(running: Option<NamedWaker>, f: u64) -> Option<NamedWaker>
     ensures { result ≡ cond (runs running f) None running }
 {
     match running {
-        Some(kept) => { if kept.future == f { None } else { Some(kept) } }
+        Some(kept) => { if kept.name == f { None } else { Some(kept) } }
         None => None,
     }
 }
@@ -447,7 +447,7 @@ fn waker_of(running: Option<NamedWaker>, f: u64) -> Option<u64>
 {
     match running {
         Some(kept) => {
-            if kept.future == f {
+            if kept.name == f {
                 Some(kept.waker)
             } else {
                 None

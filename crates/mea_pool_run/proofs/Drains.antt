@@ -105,7 +105,7 @@ module _ (p : Pool ℕ NamedWaker) (things : Names Thing) (stands : Stands p thi
   }
 
   pub is_pending : (f n w : ℕ) (c c' : DrainWait) (p' : Pool ℕ NamedWaker) → get things f ≡ Some (Wait c)
-      → PollsDrain p c (record { future = f; waker = w }) (Ok poll.Pending) p' c' → Goes (poll_of (get s.things f) s n f w) p' (insert things f (Wait c')) (Told answers.Pending)
+      → PollsDrain p c (record { name = f; waker = w }) (Ok poll.Pending) p' c' → Goes (poll_of (get s.things f) s n f w) p' (insert things f (Wait c')) (Told answers.Pending)
   is_pending f n w drain.New c' p' is polls = elim (cases_Bool (is_drained p)) [
     | inl drained ↦ absurd (let never = (polls.0 drained).0 in cc)
     | inr undrained ↦
@@ -113,7 +113,7 @@ module _ (p : Pool ℕ NamedWaker) (things : Names Thing) (stands : Stands p thi
         subst (λ (o : Outcome). Goes o p' (insert things f (Wait c')) (Told answers.Pending)) (sym (poll_is f n w drain.New false is undrained))
         (subst (λ (d : DrainWait). Goes (polled_drain false s f w) p' (insert things f (Wait d)) (Told answers.Pending)) (sym new.2)
         (subst (λ (q : Pool ℕ NamedWaker). Goes (polled_drain false s f w) q (insert things f (Wait (drain.Listed new.0))) (Told answers.Pending)) (sym new.1.is)
-        (stays f w drain.New new.0 (p.drains ++ (new.0, record { future = f; waker = w }) ∷ []) is
+        (stays f w drain.New new.0 (p.drains ++ (new.0, record { name = f; waker = w }) ∷ []) is
         (registered_last wait_at f new.0 w p.drains stands.keeps.ending.linked.named (ap awaited is))
         (lists_last wait_at p.drains p.told (is_drained p) stands.keeps.ending f new.0 w undrained (ap awaited is) new.1.not_listed))))
   ]
@@ -125,9 +125,9 @@ module _ (p : Pool ℕ NamedWaker) (things : Names Thing) (stands : Stands p thi
         subst (λ (o : Outcome). Goes o p' (insert things f (Wait c')) (Told answers.Pending)) (sym (poll_is f n w (drain.Listed m) false is undrained))
         (subst (λ (d : DrainWait). Goes (polled_drain false s f w) p' (insert things f (Wait d)) (Told answers.Pending)) (sym again.2)
         (subst (λ (q : Pool ℕ NamedWaker). Goes (polled_drain false s f w) q (insert things f (Wait (drain.Listed m))) (Told answers.Pending)) (sym again.1)
-        (stays f w (drain.Listed m) m (with_waker p.drains m (record { future = f; waker = w })) is
+        (stays f w (drain.Listed m) m (with_waker p.drains m (record { name = f; waker = w })) is
         (registered_again wait_at f m stands.keeps.ending.linked.single here w p.drains stands.keeps.ending.linked.named stands.keeps.ending.linked.apart (listed f m here undrained))
-        (subst (λ (at : At). WaitsStand at (with_waker p.drains m (record { future = f; waker = w })) p.told (is_drained p)) (sym (put_back wait_at f (Some m) here))
+        (subst (λ (at : At). WaitsStand at (with_waker p.drains m (record { name = f; waker = w })) p.told (is_drained p)) (sym (put_back wait_at f (Some m) here))
         (rewaked_lists wait_at p.drains p.told (is_drained p) stands.keeps.ending f m w undrained here)))))
   ]
     where

@@ -21,17 +21,17 @@ put at f x = λ g. cond (f == g) x (at g)
 abbrev pub IsSingle : At → Type 0
 IsSingle at = (f g n : ℕ) → at f ≡ Some n → at g ≡ Some n → f ≡ g
 
-same_test : (at : At) (f n : ℕ) → IsSingle at → at f ≡ Some n → (e : ℕ × NamedWaker) → at e.1.future ≡ Some e.0 → (e.0 == n) ≡ (e.1.future == f)
+same_test : (at : At) (f n : ℕ) → IsSingle at → at f ≡ Some n → (e : ℕ × NamedWaker) → at e.1.name ≡ Some e.0 → (e.0 == n) ≡ (e.1.name == f)
 same_test at f n single here e is = elim (cases_eq e.0 n) [
-  | inl same ↦ eq-eqb e.0 n same ∙ sym (eq-eqb e.1.future f (single e.1.future f n (is ∙ ap (λ m. Some m) same) here))
-  | inr differs ↦ ne_eqb e.0 n differs ∙ sym (ne_eqb e.1.future f (λ alike. differs (inside (sym is ∙ ap at alike ∙ here))))
+  | inl same ↦ eq-eqb e.0 n same ∙ sym (eq-eqb e.1.name f (single e.1.name f n (is ∙ ap (λ m. Some m) same) here))
+  | inr differs ↦ ne_eqb e.0 n differs ∙ sym (ne_eqb e.1.name f (λ alike. differs (inside (sym is ∙ ap at alike ∙ here))))
 ]
 
 pub none_some : (o : Option ℕ) (n : ℕ) → o ≡ None → o ≡ Some n → ⊥
 none_some o n none some = absurd (cc)
 
-other_name : (at : At) (f : ℕ) (e : ℕ × NamedWaker) → at f ≡ None → at e.1.future ≡ Some e.0 → (e.1.future == f) ≡ false
-other_name at f e none is = ne_eqb e.1.future f (λ same. none_some (at f) e.0 none (sym (ap at same) ∙ is))
+other_name : (at : At) (f : ℕ) (e : ℕ × NamedWaker) → at f ≡ None → at e.1.name ≡ Some e.0 → (e.1.name == f) ≡ false
+other_name at f e none is = ne_eqb e.1.name f (λ same. none_some (at f) e.0 none (sym (ap at same) ∙ is))
 
 flipped : (m n : ℕ) → (m == n) ≡ false → (n == m) ≡ false
 flipped m n is = ne_eqb n m (λ same. eqb-false m n is (sym same))
@@ -42,11 +42,11 @@ pub absent : (at : At) (f : ℕ) (q : Numbered) → AreOf at q → at f ≡ None
 absent at f [] are none = refl
 absent at f (e ∷ q) are none = ap (λ b. is_some (cond b (Some e.1.waker) (waker_for (names_of q) f))) (other_name at f e none are.0) ∙ absent at f q are.1 none
 
-pub registered_last : (at : At) (f n w : ℕ) (q : Numbered) → AreOf at q → at f ≡ None → names_of (q ++ (n, record { future = f; waker = w }) ∷ []) ≡ registering (names_of q) f w
+pub registered_last : (at : At) (f n w : ℕ) (q : Numbered) → AreOf at q → at f ≡ None → names_of (q ++ (n, record { name = f; waker = w }) ∷ []) ≡ registering (names_of q) f w
 registered_last at f n w [] are none = refl
 registered_last at f n w (e ∷ q) are none =
-    ap (λ es. (e.1.future, e.1.waker) ∷ es) (registered_last at f n w q are.1 none)
-    ∙ sym (ap (λ b. cond b ((e.1.future, w) ∷ names_of q) ((e.1.future, e.1.waker) ∷ registering (names_of q) f w)) (other_name at f e none are.0))
+    ap (λ es. (e.1.name, e.1.waker) ∷ es) (registered_last at f n w q are.1 none)
+    ∙ sym (ap (λ b. cond b ((e.1.name, w) ∷ names_of q) ((e.1.name, e.1.waker) ∷ registering (names_of q) f w)) (other_name at f e none are.0))
 
 with_none : (q : Numbered) (n : ℕ) (k : NamedWaker) → waker_under q n ≡ None → with_waker q n k ≡ q
 with_none [] n k none = refl
@@ -65,35 +65,35 @@ module _ (at : At) (f n : ℕ) (single : IsSingle at) (here : at f ≡ Some n) w
       by_test true rest = refl
       by_test false rest = rest
 
-  pub registered_again : (w : ℕ) (q : Numbered) → AreOf at q → AreApart q → IsSome (waker_under q n) → names_of (with_waker q n (record { future = f; waker = w })) ≡ registering (names_of q) f w
+  pub registered_again : (w : ℕ) (q : Numbered) → AreOf at q → AreApart q → IsSome (waker_under q n) → names_of (with_waker q n (record { name = f; waker = w })) ≡ registering (names_of q) f w
   registered_again w [] are apart some = absurd (cc)
   registered_again w (e ∷ q) are apart some = by_test (e.0 == n) refl (same_test at f n single here e are.0) (registered_again w q are.1 apart.1) some
     where
       k : NamedWaker
-      k = record { future = f; waker = w }
+      k = record { name = f; waker = w }
 
-      by_test : (b : Bool) → (e.0 == n) ≡ b → b ≡ (e.1.future == f) → (IsSome (waker_under q n) → names_of (with_waker q n k) ≡ registering (names_of q) f w) → IsSome (cond b (Some e.1) (waker_under q n))
-          → ◌≡◌ {A = List (ℕ × ℕ)} (((if b then k else e.1).future, (if b then k else e.1).waker) ∷ names_of (with_waker q n k)) (cond (e.1.future == f) ((e.1.future, w) ∷ names_of q) ((e.1.future, e.1.waker) ∷ registering (names_of q) f w))
+      by_test : (b : Bool) → (e.0 == n) ≡ b → b ≡ (e.1.name == f) → (IsSome (waker_under q n) → names_of (with_waker q n k) ≡ registering (names_of q) f w) → IsSome (cond b (Some e.1) (waker_under q n))
+          → ◌≡◌ {A = List (ℕ × ℕ)} (((if b then k else e.1).name, (if b then k else e.1).waker) ∷ names_of (with_waker q n k)) (cond (e.1.name == f) ((e.1.name, w) ∷ names_of q) ((e.1.name, e.1.waker) ∷ registering (names_of q) f w))
       by_test true is same rest some =
-          (λ i. (sym (eqb-true e.1.future f (sym same)) i, w) ∷ names_of (with_none q n k (subst (λ m. waker_under q m ≡ None) (eqb-true e.0 n is) apart.0) i))
-          ∙ ap (λ b. cond b ((e.1.future, w) ∷ names_of q) ((e.1.future, e.1.waker) ∷ registering (names_of q) f w)) same
+          (λ i. (sym (eqb-true e.1.name f (sym same)) i, w) ∷ names_of (with_none q n k (subst (λ m. waker_under q m ≡ None) (eqb-true e.0 n is) apart.0) i))
+          ∙ ap (λ b. cond b ((e.1.name, w) ∷ names_of q) ((e.1.name, e.1.waker) ∷ registering (names_of q) f w)) same
       by_test false is same rest some =
-          ap (λ es. (e.1.future, e.1.waker) ∷ es) (rest some)
-          ∙ ap (λ b. cond b ((e.1.future, w) ∷ names_of q) ((e.1.future, e.1.waker) ∷ registering (names_of q) f w)) same
+          ap (λ es. (e.1.name, e.1.waker) ∷ es) (rest some)
+          ∙ ap (λ b. cond b ((e.1.name, w) ∷ names_of q) ((e.1.name, e.1.waker) ∷ registering (names_of q) f w)) same
 
   pub left_named : (q : Numbered) → AreOf at q → names_of (without_wait q n) ≡ without (names_of q) f
   left_named [] are = refl
-  left_named (e ∷ q) are = by_test (e.0 == n) (left_named q are.1) ∙ ap (λ b. cond b (without (names_of q) f) ((e.1.future, e.1.waker) ∷ without (names_of q) f)) (same_test at f n single here e are.0)
+  left_named (e ∷ q) are = by_test (e.0 == n) (left_named q are.1) ∙ ap (λ b. cond b (without (names_of q) f) ((e.1.name, e.1.waker) ∷ without (names_of q) f)) (same_test at f n single here e are.0)
     where
-      by_test : (b : Bool) → names_of (without_wait q n) ≡ without (names_of q) f → names_of (if b then without_wait q n else e ∷ without_wait q n) ≡ cond b (without (names_of q) f) ((e.1.future, e.1.waker) ∷ without (names_of q) f)
+      by_test : (b : Bool) → names_of (without_wait q n) ≡ without (names_of q) f → names_of (if b then without_wait q n else e ∷ without_wait q n) ≡ cond b (without (names_of q) f) ((e.1.name, e.1.waker) ∷ without (names_of q) f)
       by_test true rest = rest
-      by_test false rest = ap (λ es. (e.1.future, e.1.waker) ∷ es) rest
+      by_test false rest = ap (λ es. (e.1.name, e.1.waker) ∷ es) rest
 
 pub absent_left : (at : At) (f : ℕ) (q : Numbered) → AreOf at q → at f ≡ None → without (names_of q) f ≡ names_of q
 absent_left at f [] are none = refl
 absent_left at f (e ∷ q) are none =
-    ap (λ b. cond b (without (names_of q) f) ((e.1.future, e.1.waker) ∷ without (names_of q) f)) (other_name at f e none are.0)
-    ∙ ap (λ es. (e.1.future, e.1.waker) ∷ es) (absent_left at f q are.1 none)
+    ap (λ b. cond b (without (names_of q) f) ((e.1.name, e.1.waker) ∷ without (names_of q) f)) (other_name at f e none are.0)
+    ∙ ap (λ es. (e.1.name, e.1.waker) ∷ es) (absent_left at f q are.1 none)
 
 -- ---- what stands at each name, changed at one
 
@@ -133,9 +133,9 @@ single_some at f n single nobody g h m a b = elim (put_some at f n g m a) [
 
 of_others : (at : At) (f : ℕ) (x : Option ℕ) (q : Numbered) → AreOf at q → at f ≡ None → AreOf (put at f x) q
 of_others at f x [] are none = tt
-of_others at f x (e ∷ q) are none = (others at f e.1.future x (Some e.0) (ne_eqb f e.1.future (λ same. none_some (at f) e.0 none (ap at same ∙ are.0))) are.0, of_others at f x q are.1 none)
+of_others at f x (e ∷ q) are none = (others at f e.1.name x (Some e.0) (ne_eqb f e.1.name (λ same. none_some (at f) e.0 none (ap at same ∙ are.0))) are.0, of_others at f x q are.1 none)
 
-of_last : (at : At) (q : Numbered) (e : ℕ × NamedWaker) → AreOf at q → at e.1.future ≡ Some e.0 → AreOf at (q ++ e ∷ [])
+of_last : (at : At) (q : Numbered) (e : ℕ × NamedWaker) → AreOf at q → at e.1.name ≡ Some e.0 → AreOf at (q ++ e ∷ [])
 of_last at [] e are is = (is, tt)
 of_last at (x ∷ q) e are is = (are.0, of_last at q e are.1 is)
 
@@ -157,7 +157,7 @@ last_there (x ∷ q) e m same = by_test (x.0 == m) (last_there q e m same)
 
 module _ {Else : ℕ → Type 0} (at : At) (q : Numbered) (linked : Linked at q Else) where
   -- one more waits, under a number that nobody has
-  pub pushed : (f n w : ℕ) → at f ≡ None → waker_under q n ≡ None → (Else n → ⊥) → Linked (put at f (Some n)) (q ++ (n, record { future = f; waker = w }) ∷ []) Else
+  pub pushed : (f n w : ℕ) → at f ≡ None → waker_under q n ≡ None → (Else n → ⊥) → Linked (put at f (Some n)) (q ++ (n, record { name = f; waker = w }) ∷ []) Else
   pushed f n w none fresh new = record {
     named = of_last (put at f (Some n)) q _ (of_others at f (Some n) q linked.named none) (ap (λ b. cond b (Some n) (at f)) (eq-eqb f f refl));
     apart = apart_last q n _ linked.apart fresh;
@@ -196,11 +196,11 @@ module _ {Else : ℕ → Type 0} (at : At) (q : Numbered) (linked : Linked at q 
       of_rest [] are = tt
       of_rest (e ∷ r) are = by_test (e.0 == n) (same_test at f n linked.single here e are.0) (of_rest r are.1)
         where
-          by_test : (b : Bool) → b ≡ (e.1.future == f) → AreOf (put at f None) (without_wait r n) → AreOf (put at f None) (if b then without_wait r n else e ∷ without_wait r n)
+          by_test : (b : Bool) → b ≡ (e.1.name == f) → AreOf (put at f None) (without_wait r n) → AreOf (put at f None) (if b then without_wait r n else e ∷ without_wait r n)
           by_test true same rest = rest
-          by_test false same rest = (others at f e.1.future None (Some e.0) (flipped e.1.future f (sym same)) are.0, rest)
+          by_test false same rest = (others at f e.1.name None (Some e.0) (flipped e.1.name f (sym same)) are.0, rest)
 
-  pub rewaked : (f n w : ℕ) → at f ≡ Some n → Linked at (with_waker q n (record { future = f; waker = w })) Else
+  pub rewaked : (f n w : ℕ) → at f ≡ Some n → Linked at (with_waker q n (record { name = f; waker = w })) Else
   rewaked f n w here = record {
     named = of_all q linked.named;
     apart = apart_rewaked q n _ linked.apart;
@@ -211,11 +211,11 @@ module _ {Else : ℕ → Type 0} (at : At) (q : Numbered) (linked : Linked at q 
     ];
   }
     where
-      of_all : (r : Numbered) → AreOf at r → AreOf at (with_waker r n (record { future = f; waker = w }))
+      of_all : (r : Numbered) → AreOf at r → AreOf at (with_waker r n (record { name = f; waker = w }))
       of_all [] are = tt
       of_all (e ∷ r) are = (by_test (e.0 == n) refl, of_all r are.1)
         where
-          by_test : (b : Bool) → (e.0 == n) ≡ b → at (if b then record { future = f; waker = w } else e.1).future ≡ Some e.0
+          by_test : (b : Bool) → (e.0 == n) ≡ b → at (if b then record { name = f; waker = w } else e.1).name ≡ Some e.0
           by_test true is = here ∙ ap (λ k. Some k) (sym (eqb-true e.0 n is))
           by_test false is = are.0
 

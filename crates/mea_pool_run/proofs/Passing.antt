@@ -95,8 +95,8 @@ passes_for (e ∷ rest) q things k waits half more quiet =
     let total : taken q + 1 ≡ lent_count q.lent + map.len (insert q.granted e.0 1) = omega arith in
     subst (λ (t : PoolByName). Goes (settled t (e.1.waker ∷ [])) (pool.settled (record q { waiting = rest; granted = insert q.granted e.0 1; wakes = q.wakes ++ e.1 ∷ [] })) things (Told answers.Done))
     (pool_path (pool_by_name (record q { waiting = rest; granted = insert q.granted e.0 1; wakes = q.wakes ++ e.1 ∷ [] }) things)
-    (record (pool_by_name q things) { taken = k; waiting = names_of rest; things = insert (seen (live_of q.granted) things) e.1.future (asks true) })
-    refl (sym total ∙ sym more) refl (seen_granted q.granted things e.1.future e.0 asking.linked.single asking.linked.named.0) refl refl refl)
+    (record (pool_by_name q things) { taken = k; waiting = names_of rest; things = insert (seen (live_of q.granted) things) e.1.name (asks true) })
+    refl (sym total ∙ sym more) refl (seen_granted q.granted things e.1.name e.0 asking.linked.single asking.linked.named.0) refl refl refl)
     (settles (record q { waiting = rest; granted = insert q.granted e.0 1; wakes = q.wakes ++ e.1 ∷ [] }) things (e.1.waker ∷ []) (record {
       going = half.going;
       asking = first_granted (λ f. asked (get things f)) e rest q.granted q.cut q.draining asking;

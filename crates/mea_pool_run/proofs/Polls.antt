@@ -165,7 +165,7 @@ module _ (p : Pool ℕ NamedWaker) (things : Names Thing) (stands : Stands p thi
   }
 
   pub pending : (f n w : ℕ) (a a' : LeaseWait) (p' : Pool ℕ NamedWaker) → get things f ≡ Some (Ask a)
-      → PollsLease p a (record { future = f; waker = w }) (Ok answer.Pending) p' a' → Goes (poll_of (get s.things f) s n f w) p' (insert things f (Ask a')) (Told answers.Pending)
+      → PollsLease p a (record { name = f; waker = w }) (Ok answer.Pending) p' a' → Goes (poll_of (get s.things f) s n f w) p' (insert things f (Ask a')) (Told answers.Pending)
   pending f n w lease.New a' p' is polls = elim (cases_Bool p.draining) [
     | inl closed ↦ absurd (let no = (polls.0 closed).0 in cc)
     | inr undrained ↦ elim (cases_lt (taken p) (length p.lent)) [
@@ -198,7 +198,7 @@ module _ (p : Pool ℕ NamedWaker) (things : Names Thing) (stands : Stands p thi
         (subst (λ (q : Pool ℕ NamedWaker). Goes (gets_or_waits false s n f w) q (insert things f (Ask (lease.Queued m))) (Told answers.Pending)) (sym again.1)
         (stays f n w (lease.Queued m) m _ is (ap is_some none) (ap is_some none)
         (registered_again ask_at f m single here w p.waiting named stands.keeps.asking.linked.apart some)
-        (subst (λ (at : At). AsksStand at (with_waker p.waiting m (record { future = f; waker = w })) p.granted p.cut p.draining) (sym (put_back ask_at f (Some m) here))
+        (subst (λ (at : At). AsksStand at (with_waker p.waiting m (record { name = f; waker = w })) p.granted p.cut p.draining) (sym (put_back ask_at f (Some m) here))
         (rewaked_waits ask_at p.waiting p.granted p.cut p.draining stands.keeps.asking f m w here)))))
     | inr met ↦ elim met [
       | inl one ↦ absurd (let no = (polls.0 one).0.answers in cc)

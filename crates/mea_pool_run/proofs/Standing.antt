@@ -83,7 +83,7 @@ module _ (at : ℕ → Option ℕ) (waiting : Numbered) (granted cut : FinMap na
 
   -- one more waits
   pub waits_last : (f n w : ℕ) → draining ≡ false → at f ≡ None → waker_under waiting n ≡ None → get granted n ≡ None
-      → AsksStand (put at f (Some n)) (waiting ++ (n, record { future = f; waker = w }) ∷ []) granted cut draining
+      → AsksStand (put at f (Some n)) (waiting ++ (n, record { name = f; waker = w }) ∷ []) granted cut draining
   waits_last f n w undrained none fresh ungranted = record {
     linked = pushed at waiting stand.linked f n w none fresh (λ met. elim met [
       | inl one ↦ not_both (get granted n) 1 ungranted one
@@ -96,11 +96,11 @@ module _ (at : ℕ → Option ℕ) (waiting : Numbered) (granted cut : FinMap na
     all_cut = λ closed. absurd (true_not_false draining undrained closed);
   }
 
-  pub rewaked_waits : (f n w : ℕ) → at f ≡ Some n → AsksStand at (with_waker waiting n (record { future = f; waker = w })) granted cut draining
+  pub rewaked_waits : (f n w : ℕ) → at f ≡ Some n → AsksStand at (with_waker waiting n (record { name = f; waker = w })) granted cut draining
   rewaked_waits f n w here = record {
     linked = rewaked at waiting stand.linked f n w here;
     ungranted = λ m some. stand.ungranted m (sym (rewaked_some waiting n m _) ∙ some);
-    all_cut = λ closed. ap (λ (q : Numbered). with_waker q n (record { future = f; waker = w })) (stand.all_cut closed);
+    all_cut = λ closed. ap (λ (q : Numbered). with_waker q n (record { name = f; waker = w })) (stand.all_cut closed);
   }
 
   -- one that was cut is gone
@@ -185,13 +185,13 @@ module _ (at : ℕ → Option ℕ) (drains : Numbered) (told : FinMap nat_cmp Bo
     all_told = stand.all_told;
   }
 
-  pub lists_last : (f n w : ℕ) → drained ≡ false → at f ≡ None → waker_under drains n ≡ None → WaitsStand (put at f (Some n)) (drains ++ (n, record { future = f; waker = w }) ∷ []) told drained
+  pub lists_last : (f n w : ℕ) → drained ≡ false → at f ≡ None → waker_under drains n ≡ None → WaitsStand (put at f (Some n)) (drains ++ (n, record { name = f; waker = w }) ∷ []) told drained
   lists_last f n w undrained none fresh = record {
     linked = pushed at drains stand.linked f n w none fresh (λ met. true_not_false drained undrained met.0);
     all_told = λ over. absurd (true_not_false drained undrained over);
   }
 
-  pub rewaked_lists : (f n w : ℕ) → drained ≡ false → at f ≡ Some n → WaitsStand at (with_waker drains n (record { future = f; waker = w })) told drained
+  pub rewaked_lists : (f n w : ℕ) → drained ≡ false → at f ≡ Some n → WaitsStand at (with_waker drains n (record { name = f; waker = w })) told drained
   rewaked_lists f n w undrained here = record {
     linked = rewaked at drains stand.linked f n w here;
     all_told = λ over. absurd (true_not_false drained undrained over);

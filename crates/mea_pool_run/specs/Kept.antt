@@ -22,7 +22,7 @@ Numbered = List (ℕ × NamedWaker)
 
 -- who waits under numbers, by their names
 abbrev pub names_of : Numbered → Waiting
-names_of q = map (λ (e : ℕ × NamedWaker). (e.1.future, e.1.waker)) q
+names_of q = map (λ (e : ℕ × NamedWaker). (e.1.name, e.1.waker)) q
 
 -- whether a wait for a lease was granted a place
 abbrev pub is_granted : FinMap nat_cmp ℕ → LeaseWait → Bool
@@ -76,7 +76,7 @@ IsGoing _ = Unit {0}
 -- each that waits under a number is the one of that number which its waker names
 abbrev pub AreOf : (ℕ → Option ℕ) → Numbered → Type 0
 AreOf at [] = Unit {0}
-AreOf at (e ∷ q) = (at e.1.future ≡ Some e.0) × AreOf at q
+AreOf at (e ∷ q) = (at e.1.name ≡ Some e.0) × AreOf at q
 
 -- who waits and the numbers by name go together; a number that does not wait is another, of which Else tells
 pub record Linked (at : ℕ → Option ℕ) (q : Numbered) (Else : ℕ → Type 0) : Type 0 where

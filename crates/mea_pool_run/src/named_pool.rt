@@ -79,10 +79,7 @@ impl NamedPool {
         ensures goes { IfOk result (λ reply. Goes (poll_of (get (pool_by_name self.old.pool self.old.things).things name) (pool_by_name self.old.pool self.old.things) number name waker) self.new.pool self.new.things reply) }
         ensures below { OnOk result (AreBelow self.new.things (number + 1)) }
     {
-        let named = NamedWaker {
-            future: name,
-            waker,
-        };
+        let named = NamedWaker { name, waker };
         let Some(thing) = self.things.get_mut(name) else {
             return Ok(PoolReply::Unknown);
         };

@@ -10,7 +10,7 @@ use Rattle.mea_once.proofs.cell_entry.CellEntry.poll_call.Goals as goal
 
 pub returns-then-runs : goal.returns-then-runs
 returns-then-runs g c = subst (λ (old : KeptCell). runs old.running c.args.f ≡ c.runs.result → (s : Stands g.C.TurnCore.is_once old c.args.f c.args.future.now)
-    → Stepped g.C.TurnCore.is_once old s.fs s.n c.args.f c.args.future.now.cell (Some c.args.future.now) (poll c.args.f c.args.waker (future_seen c.args.future.now) (cell_seen old)) Pending (record { cell = g.C.TurnCore.seen_as c.self.inside.core; running = Some (record { future = c.args.f; waker = c.args.waker }); futures = c.self.inside.futures; alone = c.self.inside.alone }) c.args.ready.now c.args.ready.now) c.self.view_is
+    → Stepped g.C.TurnCore.is_once old s.fs s.n c.args.f c.args.future.now.cell (Some c.args.future.now) (poll c.args.f c.args.waker (future_seen c.args.future.now) (cell_seen old)) Pending (record { cell = g.C.TurnCore.seen_as c.self.inside.core; running = Some (record { name = c.args.f; waker = c.args.waker }); futures = c.self.inside.futures; alone = c.self.inside.alone }) c.args.ready.now c.args.ready.now) c.self.view_is
     (λ run s. rewakes g.C.TurnCore.is_once _ c.args.f c.args.future.now s c.args.waker c.args.ready.now (run ∙ c.if-runs.true)) (sym c.runs.ensures)
 
 pub poll_turn-requires-clause-may : goal.poll_turn-requires-clause-may

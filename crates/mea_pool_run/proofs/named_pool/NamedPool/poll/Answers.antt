@@ -36,7 +36,7 @@ pub returns-in_ok-insert-in-Ok-Got-clause-goes : goal.returns-in_ok-insert-in-Ok
 returns-in_ok-insert-in-Ok-Got-clause-goes c =
     goes_as _ _ _ _ _ _ _ refl (c.in_ok-insert-in-Ok-Got.ensures.ok ∙ ap (λ (ts : Names Thing). insert ts c.args.number (Held c.in-Ok-Got.lease)) (c.remove.ensures.rest ∙ (put_gone c.args.self.now.things c.args.name (Ask c.poll_lease.new.wait)))) (λ i. Leased (c.slot.ensures i) (c.resource.ensures i))
     (got c.args.self.now.pool c.args.self.now.things c.requires.stands c.args.name c.args.number c.args.waker c.in-Ask.wait c.poll_lease.new.wait _ c.poll_lease.new.self c.in-Ok-Got.lease (sym c.get_mut.ensures.value ∙ ap option_copied_mut c.in-Some.is ∙ ap (λ (t : Thing). Some t) c.in-Ask.is)
-    (c.requires.below c.args.number (omega arith)) (subst (λ (t : LeasePoll ℕ). PollsLease c.args.self.now.pool c.in-Ask.wait (record { future = c.args.name; waker = c.args.waker }) (Ok t) c.poll_lease.new.self c.poll_lease.new.wait) c.in-Ok-Got.field-0-is c.in-Ok-Got.ensures.polls))
+    (c.requires.below c.args.number (omega arith)) (subst (λ (t : LeasePoll ℕ). PollsLease c.args.self.now.pool c.in-Ask.wait (record { name = c.args.name; waker = c.args.waker }) (Ok t) c.poll_lease.new.self c.poll_lease.new.wait) c.in-Ok-Got.field-0-is c.in-Ok-Got.ensures.polls))
 
 pub returns-in_ok-insert-in-Ok-Got-clause-below : goal.returns-in_ok-insert-in-Ok-Got-clause-below
 returns-in_ok-insert-in-Ok-Got-clause-below c =
@@ -44,7 +44,7 @@ returns-in_ok-insert-in-Ok-Got-clause-below c =
 
 pub returns-in-Ok-Pending-clause-goes : goal.returns-in-Ok-Pending-clause-goes
 returns-in-Ok-Pending-clause-goes c =
-    pending c.args.self.now.pool c.args.self.now.things c.requires.stands c.args.name c.args.number c.args.waker c.in-Ask.wait c.poll_lease.new.wait c.poll_lease.new.self (sym c.get_mut.ensures.value ∙ ap option_copied_mut c.in-Some.is ∙ ap (λ (t : Thing). Some t) c.in-Ask.is) (subst (λ (t : LeasePoll ℕ). PollsLease c.args.self.now.pool c.in-Ask.wait (record { future = c.args.name; waker = c.args.waker }) (Ok t) c.poll_lease.new.self c.poll_lease.new.wait) c.in-Ok-Pending.field-0-is c.in-Ok-Pending.ensures.polls)
+    pending c.args.self.now.pool c.args.self.now.things c.requires.stands c.args.name c.args.number c.args.waker c.in-Ask.wait c.poll_lease.new.wait c.poll_lease.new.self (sym c.get_mut.ensures.value ∙ ap option_copied_mut c.in-Some.is ∙ ap (λ (t : Thing). Some t) c.in-Ask.is) (subst (λ (t : LeasePoll ℕ). PollsLease c.args.self.now.pool c.in-Ask.wait (record { name = c.args.name; waker = c.args.waker }) (Ok t) c.poll_lease.new.self c.poll_lease.new.wait) c.in-Ok-Pending.field-0-is c.in-Ok-Pending.ensures.polls)
 
 pub returns-in-Ok-Pending-clause-below : goal.returns-in-Ok-Pending-clause-below
 returns-in-Ok-Pending-clause-below c =
@@ -53,7 +53,7 @@ returns-in-Ok-Pending-clause-below c =
 pub returns-in-Ok-Closed-clause-goes : goal.returns-in-Ok-Closed-clause-goes
 returns-in-Ok-Closed-clause-goes c =
     goes_as _ _ _ _ _ _ _ refl (c.remove-in-Ok-Closed.ensures.rest ∙ (put_gone c.args.self.now.things c.args.name (Ask c.poll_lease.new.wait))) refl
-    (closed_to c.args.self.now.pool c.args.self.now.things c.requires.stands c.args.name c.args.number c.args.waker c.in-Ask.wait c.poll_lease.new.wait _ c.poll_lease.new.self (sym c.get_mut.ensures.value ∙ ap option_copied_mut c.in-Some.is ∙ ap (λ (t : Thing). Some t) c.in-Ask.is) (subst (λ (t : LeasePoll ℕ). PollsLease c.args.self.now.pool c.in-Ask.wait (record { future = c.args.name; waker = c.args.waker }) (Ok t) c.poll_lease.new.self c.poll_lease.new.wait) c.in-Ok-Closed.field-0-is c.in-Ok-Closed.ensures.polls))
+    (closed_to c.args.self.now.pool c.args.self.now.things c.requires.stands c.args.name c.args.number c.args.waker c.in-Ask.wait c.poll_lease.new.wait _ c.poll_lease.new.self (sym c.get_mut.ensures.value ∙ ap option_copied_mut c.in-Some.is ∙ ap (λ (t : Thing). Some t) c.in-Ask.is) (subst (λ (t : LeasePoll ℕ). PollsLease c.args.self.now.pool c.in-Ask.wait (record { name = c.args.name; waker = c.args.waker }) (Ok t) c.poll_lease.new.self c.poll_lease.new.wait) c.in-Ok-Closed.field-0-is c.in-Ok-Closed.ensures.polls))
 
 pub returns-in-Ok-Closed-clause-below : goal.returns-in-Ok-Closed-clause-below
 returns-in-Ok-Closed-clause-below c = below_as _ _ (c.args.number + 1) (c.remove-in-Ok-Closed.ensures.rest ∙ (put_gone c.args.self.now.things c.args.name (Ask c.poll_lease.new.wait))) (below_after c.args.self.now.things c.args.name c.args.number c.requires.below)
@@ -61,14 +61,14 @@ returns-in-Ok-Closed-clause-below c = below_as _ _ (c.args.number + 1) (c.remove
 pub returns-in-Ok-Ready-clause-goes : goal.returns-in-Ok-Ready-clause-goes
 returns-in-Ok-Ready-clause-goes c =
     goes_as _ _ _ _ _ _ _ refl (c.remove-in-Ok-Ready.ensures.rest ∙ (put_gone c.args.self.now.things c.args.name (Wait c.poll_drained.new.wait))) refl
-    (is_ready c.args.self.now.pool c.args.self.now.things c.requires.stands c.args.name c.args.number c.args.waker c.in-Wait.wait c.poll_drained.new.wait _ c.poll_drained.new.self (sym c.get_mut.ensures.value ∙ ap option_copied_mut c.in-Some.is ∙ ap (λ (t : Thing). Some t) c.in-Wait.is) (subst (λ (t : Poll (Unit {0})). PollsDrain c.args.self.now.pool c.in-Wait.wait (record { future = c.args.name; waker = c.args.waker }) (Ok t) c.poll_drained.new.self c.poll_drained.new.wait) c.in-Ok-Ready.field-0-is c.in-Ok-Ready.ensures.polls))
+    (is_ready c.args.self.now.pool c.args.self.now.things c.requires.stands c.args.name c.args.number c.args.waker c.in-Wait.wait c.poll_drained.new.wait _ c.poll_drained.new.self (sym c.get_mut.ensures.value ∙ ap option_copied_mut c.in-Some.is ∙ ap (λ (t : Thing). Some t) c.in-Wait.is) (subst (λ (t : Poll (Unit {0})). PollsDrain c.args.self.now.pool c.in-Wait.wait (record { name = c.args.name; waker = c.args.waker }) (Ok t) c.poll_drained.new.self c.poll_drained.new.wait) c.in-Ok-Ready.field-0-is c.in-Ok-Ready.ensures.polls))
 
 pub returns-in-Ok-Ready-clause-below : goal.returns-in-Ok-Ready-clause-below
 returns-in-Ok-Ready-clause-below c = below_as _ _ (c.args.number + 1) (c.remove-in-Ok-Ready.ensures.rest ∙ (put_gone c.args.self.now.things c.args.name (Wait c.poll_drained.new.wait))) (below_after c.args.self.now.things c.args.name c.args.number c.requires.below)
 
 pub returns-in-Ok-Pending-poll_drained-clause-goes : goal.returns-in-Ok-Pending-poll_drained-clause-goes
 returns-in-Ok-Pending-poll_drained-clause-goes c =
-    is_pending c.args.self.now.pool c.args.self.now.things c.requires.stands c.args.name c.args.number c.args.waker c.in-Wait.wait c.poll_drained.new.wait c.poll_drained.new.self (sym c.get_mut.ensures.value ∙ ap option_copied_mut c.in-Some.is ∙ ap (λ (t : Thing). Some t) c.in-Wait.is) (subst (λ (t : Poll (Unit {0})). PollsDrain c.args.self.now.pool c.in-Wait.wait (record { future = c.args.name; waker = c.args.waker }) (Ok t) c.poll_drained.new.self c.poll_drained.new.wait) c.in-Ok-Pending-poll_drained.field-0-is c.in-Ok-Pending-poll_drained.ensures.polls)
+    is_pending c.args.self.now.pool c.args.self.now.things c.requires.stands c.args.name c.args.number c.args.waker c.in-Wait.wait c.poll_drained.new.wait c.poll_drained.new.self (sym c.get_mut.ensures.value ∙ ap option_copied_mut c.in-Some.is ∙ ap (λ (t : Thing). Some t) c.in-Wait.is) (subst (λ (t : Poll (Unit {0})). PollsDrain c.args.self.now.pool c.in-Wait.wait (record { name = c.args.name; waker = c.args.waker }) (Ok t) c.poll_drained.new.self c.poll_drained.new.wait) c.in-Ok-Pending-poll_drained.field-0-is c.in-Ok-Pending-poll_drained.ensures.polls)
 
 pub returns-in-Ok-Pending-poll_drained-clause-below : goal.returns-in-Ok-Pending-poll_drained-clause-below
 returns-in-Ok-Pending-poll_drained-clause-below c =

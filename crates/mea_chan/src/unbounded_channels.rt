@@ -30,8 +30,8 @@ impl MailboxCore for UnboundedCore<u64, u64> {
         UnboundedCore::try_recv(self)
     }
 
-    fn recv(&mut self, waker: u64) -> Result<Result<u64, TryRecvError>, NoMemory> {
-        match self.poll_recv(waker) {
+    fn poll_recv(&mut self, waker: u64) -> Result<Result<u64, TryRecvError>, NoMemory> {
+        match UnboundedCore::poll_recv(self, waker) {
             Ok(Poll::Ready(Ok(message))) => Ok(Ok(message)),
             Ok(Poll::Ready(Err(RecvError::Disconnected))) => Ok(Err(TryRecvError::Disconnected)),
             Ok(Poll::Pending) => Ok(Err(TryRecvError::Empty)),
