@@ -22,7 +22,7 @@ use crate::point_entry::PointEntry;
 use crate::wait_entry::WaitEntry;
 use mea_base::{NoMemory, Poll, Ready};
 use mea_by_name::ByName;
-use mea_family::{Form, Reply, Stop, Word, one_if, overflow_if, unknown_unless, yes_if};
+use mea_family::{Answer, Form, Reply, Stop, Word, one_if, overflow_if, unknown_unless, yes_if};
 use std::alloc::Global;
 use std::marker::Model;
 
