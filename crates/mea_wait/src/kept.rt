@@ -66,9 +66,14 @@ impl<'a, R: Wait, P: End> Deref for Kept<'a, R, P> {
 }
 
 impl<'a, R: Wait, P: End> DerefMut for Kept<'a, R, P> {
+    ghost use Rattle.mea_wait.specs.KeptLends.{lends_value};
+
     ghost deref_mut_gives = { λ kept value. value ≡ kept };
 
-    fn deref_mut(&mut self) -> &mut P {
+    fn deref_mut(&mut self) -> &mut P
+        ensures* writes_back { sem 𝓛 (lends_value R.row P.row self.entry result) }
+        ensures value { result.now ≡ self.old }
+    {
         &mut self.value
     }
 }
