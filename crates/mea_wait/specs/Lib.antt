@@ -1,1 +1,2 @@
+pub mod KeptLends
 pub mod Polls

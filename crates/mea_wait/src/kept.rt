@@ -1,41 +1,54 @@
 ghost use Rattle.std.specs.Prelude.{◌≡◌};
+ghost use Rattle.std.specs.Borrow.{sem};
 
 use crate::end::End;
+use std::marker::Model;
 use std::ops::{Deref, DerefMut};
 use std::sync::Wait;
 
 /// A value that must be spent, with the handle to spend it where this is dropped. It is what one puts into
-/// a closure, a list or a task, which hold nothing that must be spent.
+/// a closure, a list or a task, which hold nothing that must be spent. A contract sees of it the value.
 pub struct Kept<'a, R: Wait, P: End> {
     rt: &'a R,
     value: P,
 }
 
+impl<'a, R: Wait, P: End> Model for Kept<'a, R, P> {
+    ghost Value = { P };
+
+    ghost coded = { P.code };
+
+    ghost view = { λ k. k.value };
+}
+
 impl<'a, R: Wait, P: End> Kept<'a, R, P> {
+    ghost use Rattle.mea_wait.specs.KeptLends.{lends_value};
+
     /// Keeps the value. It takes no memory.
     pub fn new(rt: &'a R, value: P) -> Self
-        ensures { result.value ≡ value }
+        ensures { result ≡ value }
     {
         Kept { rt, value }
     }
 
     /// The value. It takes no memory.
     pub fn get(&self) -> &P
-        ensures { result.now ≡ self.now.value }
+        ensures { result.now ≡ self.now }
     {
         &self.value
     }
 
-    /// The value for writing. No clause tells the caller what was written. It takes no memory.
+    /// The value for writing. It takes no memory.
     pub fn get_mut(&mut self) -> &mut P
-        ensures { result.now ≡ self.old.value }
+        ensures* writes_back { sem 𝓛 (lends_value R.row P.row self.entry result) }
+        ensures value { result.now ≡ self.old }
     {
         &mut self.value
     }
 
     /// The value, which the caller then has to spend. It takes no memory.
     pub fn into_inner(self) -> P
-        ensures { result ≡ self.entry.value }
+        ensures { result ≡ self.entry }
     {
         let Kept { rt: _, value } = self;
         value
@@ -45,7 +58,7 @@ impl<'a, R: Wait, P: End> Kept<'a, R, P> {
 impl<'a, R: Wait, P: End> Deref for Kept<'a, R, P> {
     type Target = P;
 
-    ghost deref_gives = { λ kept value. value ≡ kept.value };
+    ghost deref_gives = { λ kept value. value ≡ kept };
 
     fn deref(&self) -> &P {
         &self.value
@@ -53,9 +66,14 @@ impl<'a, R: Wait, P: End> Deref for Kept<'a, R, P> {
 }
 
 impl<'a, R: Wait, P: End> DerefMut for Kept<'a, R, P> {
-    ghost deref_mut_gives = { λ kept value. value ≡ kept.value };
+    ghost use Rattle.mea_wait.specs.KeptLends.{lends_value};
 
-    fn deref_mut(&mut self) -> &mut P {
+    ghost deref_mut_gives = { λ kept value. value ≡ kept };
+
+    fn deref_mut(&mut self) -> &mut P
+        ensures* writes_back { sem 𝓛 (lends_value R.row P.row self.entry result) }
+        ensures value { result.now ≡ self.old }
+    {
         &mut self.value
     }
 }
