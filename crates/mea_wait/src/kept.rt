@@ -14,11 +14,13 @@ pub struct Kept<'a, R: Wait, P: End> {
 }
 
 impl<'a, R: Wait, P: End> Model for Kept<'a, R, P> {
-    ghost Value = { P };
+    ghost use Rattle.mea_wait.specs.Kept.{Kept, kept_code};
 
-    ghost coded = { P.code };
+    ghost Value = { Kept P };
 
-    ghost view = { λ k. k.value };
+    ghost coded = { kept_code P.code };
+
+    ghost view = { λ k. record { value = k.value } };
 }
 
 impl<'a, R: Wait, P: End> Kept<'a, R, P> {
@@ -26,14 +28,14 @@ impl<'a, R: Wait, P: End> Kept<'a, R, P> {
 
     /// Keeps the value. It takes no memory.
     pub fn new(rt: &'a R, value: P) -> Self
-        ensures { result ≡ value }
+        ensures { result.value ≡ value }
     {
         Kept { rt, value }
     }
 
     /// The value. It takes no memory.
     pub fn get(&self) -> &P
-        ensures { result.now ≡ self.now }
+        ensures { result.now ≡ self.now.value }
     {
         &self.value
     }
@@ -41,14 +43,14 @@ impl<'a, R: Wait, P: End> Kept<'a, R, P> {
     /// The value for writing. It takes no memory.
     pub fn get_mut(&mut self) -> &mut P
         ensures* writes_back { sem 𝓛 (lends_value R.row P.row self.entry result) }
-        ensures value { result.now ≡ self.old }
+        ensures value { result.now ≡ self.old.value }
     {
         &mut self.value
     }
 
     /// The value, which the caller then has to spend. It takes no memory.
     pub fn into_inner(self) -> P
-        ensures { result ≡ self.entry }
+        ensures { result ≡ self.entry.value }
     {
         let Kept { rt: _, value } = self;
         value
@@ -58,7 +60,7 @@ impl<'a, R: Wait, P: End> Kept<'a, R, P> {
 impl<'a, R: Wait, P: End> Deref for Kept<'a, R, P> {
     type Target = P;
 
-    ghost deref_gives = { λ kept value. value ≡ kept };
+    ghost deref_gives = { λ kept value. value ≡ kept.value };
 
     fn deref(&self) -> &P {
         &self.value
@@ -68,11 +70,11 @@ impl<'a, R: Wait, P: End> Deref for Kept<'a, R, P> {
 impl<'a, R: Wait, P: End> DerefMut for Kept<'a, R, P> {
     ghost use Rattle.mea_wait.specs.KeptLends.{lends_value};
 
-    ghost deref_mut_gives = { λ kept value. value ≡ kept };
+    ghost deref_mut_gives = { λ kept value. value ≡ kept.value };
 
     fn deref_mut(&mut self) -> &mut P
         ensures* writes_back { sem 𝓛 (lends_value R.row P.row self.entry result) }
-        ensures value { result.now ≡ self.old }
+        ensures value { result.now ≡ self.old.value }
     {
         &mut self.value
     }
