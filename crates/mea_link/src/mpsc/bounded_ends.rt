@@ -137,10 +137,7 @@ fn poll_send<T: Drop, W: Drop>(
 }
 
 // Ends a send, as above. Its value is handed out where it was not sent, to be dropped outside the lock.
-fn end_send<T: Drop, W: Drop>(
-    core: &mut BoundedCore<T, W>,
-    send: SendWait<T>,
-) -> (Option<T>, usize)
+fn end_send<T: Drop, W: Drop>(core: &mut BoundedCore<T, W>, send: SendWait<T>) -> (Option<T>, usize)
     ensures value { result.0 ≡ send.value }
     ensures allowed { Belongs core.old.waiting send.acquire → EndsSend core.old send.acquire core.new }
     ensures refused { ¬ Belongs core.old.waiting send.acquire → core.new ≡ core.old }
@@ -163,9 +160,7 @@ fn end_sender<T: Drop, W: Drop>(core: &mut BoundedCore<T, W>) -> usize
 }
 
 // The receiver ends, as above. What was queued is handed out, to be dropped outside the lock.
-fn end_receiver<T: Drop, W: Drop>(
-    core: &mut BoundedCore<T, W>,
-) -> (Option<VecDeque<T>>, usize)
+fn end_receiver<T: Drop, W: Drop>(core: &mut BoundedCore<T, W>) -> (Option<VecDeque<T>>, usize)
     ensures allowed { core.old.ended ≡ false → core.new ≡ without_receiver core.old }
     ensures ended { core.old.ended ≡ true → core.new ≡ core.old }
     ensures queued { IfSome result.0 (λ queued. queued.items ≡ core.old.queued) }
