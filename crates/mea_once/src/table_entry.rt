@@ -326,9 +326,10 @@ impl<C: TableCore> TableEntry<C> {
         let named = NamedWaker { name: f, waker };
         let own = self.own_round(future.round);
         if runs(own, f) {
-            if let Some(n) = future.round {
-                self.rewake(n, named);
-            }
+            let Some(n) = future.round else {
+                return Ok(PENDING);
+            };
+            self.rewake(n, named);
             return Ok(PENDING);
         }
         let Ok(()) = ready.register() else {
