@@ -226,13 +226,14 @@ def strip_generics(head):
     return head
 
 
-def shared(crate, own):
-    """What a file gives again of other crates, from their sources."""
+def shared(crate, own, wanted=None):
+    """What a file gives again of other crates, from their sources: all, or the names that are wanted."""
     out = []
     for use in re.finditer(r"^pub use (mea_\w+)::\{?([^};]*)\}?;", read(os.path.join(TOP, crate, "src", own)), re.M):
         names = set(re.findall(r"\b[A-Z]\w*", use.group(2)))
+        names = names if wanted is None else names & wanted
         if names:
-            out += module(os.path.join(TOP, use.group(1), "src"), "lib.rt", ["."], names)
+            out += module(os.path.join(TOP, use.group(1), "src"), "lib.rt", ["."], names) + shared(use.group(1), "lib.rt", names)
     return renamed(out, read(os.path.join(TOP, crate, "src", own)))
 
 

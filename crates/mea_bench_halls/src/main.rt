@@ -1,5 +1,5 @@
-//! The program `mea_bench_halls`: plays rounds of events of each family on the halls, and prints how many nanoseconds one event
-//! took. It tells nothing of the replies: what they are is what `mea_hall` promises.
+//! The program `mea_bench_halls`: plays rounds of events of each family on the halls nine times over, and prints how many
+//! nanoseconds one event took in the fastest play. It tells nothing of the replies: what they are is what `mea_hall` promises.
 //!
 //!     mea_bench_halls ROUNDS
 //!     mea_bench_halls ROUNDS WORK      writes the script of a work, a name of the report, for other programs to play
@@ -11,7 +11,7 @@
 mod measure;
 mod works;
 
-use crate::measure::{Fault, nanoseconds_per_event};
+use crate::measure::{Fault, hundredths_per_event};
 use crate::works::{WORKS, script_of};
 use mea_text::number_of;
 use std::process::ExitCode;
@@ -71,8 +71,13 @@ fn answer(rt: &HostRuntime, asked: &Asked) -> Result<(), Fault> {
 // Measures each work in turn, and prints a line for it.
 fn report(rt: &HostRuntime, rounds: u64) -> Result<(), Fault> {
     for work in &WORKS {
-        let nanoseconds = nanoseconds_per_event(rt, work, rounds)?;
-        println!(rt; "{} {nanoseconds} ns", work.name)?;
+        let hundredths = hundredths_per_event(rt, work, rounds)?;
+        println!(rt;
+            "{} {}.{:02} ns",
+            work.name,
+            hundredths / 100,
+            hundredths % 100
+        )?;
     }
     Ok(())
 }

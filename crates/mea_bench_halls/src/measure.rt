@@ -55,23 +55,24 @@ impl From<AllocError> for Fault {
     }
 }
 
-/// How long one event of the work takes, on halls of its own. The events are made before the clock is read, and each wake is
-/// taken.
-pub fn nanoseconds_per_event(
+/// How many times the events of a work are played. The least time counts.
+const PLAYS: u32 = 9;
+
+/// How long one event of the work takes, in hundredths of a nanosecond: the least of nine plays, each on a hall of its own. The
+/// events are made before, and each wake is taken. While the clock runs no hall is made and none is dropped.
+pub fn hundredths_per_event(
     rt: &(impl Clock + AllocGlobal),
     work: &Work,
     rounds: u64,
 ) -> Result<u128, Fault> {
     let script = script_of(rt.alloc(), work, rounds)?;
     let events = events_of(rt.alloc(), script.as_str())?;
-    let Ok(start) = Instant::now(rt) else {
-        return Err(Fault::Clock);
-    };
-    play_once(Hall::new(rt.alloc()), events.as_slice())?;
-    match start.elapsed(rt) {
-        Ok(elapsed) => Ok(elapsed.as_nanos() / events.len().max(1) as u128),
-        Err(_) => Err(Fault::Clock),
+    let mut least = u128::MAX;
+    for _ in 0..PLAYS {
+        let nanoseconds = nanoseconds_of_play(rt, Hall::new(rt.alloc()), events.as_slice())?;
+        least = least.min(nanoseconds);
     }
+    Ok(least.saturating_mul(100) / events.len().max(1) as u128)
 }
 
 fn events_of(alloc: Global, script: &str) -> Result<Vec<Event>, Fault> {
@@ -110,10 +111,22 @@ impl Player for Hall {
     }
 }
 
-fn play_once<P: Player>(mut player: P, events: &[Event]) -> Result<(), Fault>
+// How long it takes to play the events. The player is dropped after the clock was read.
+fn nanoseconds_of_play<P: Player>(
+    rt: &impl Clock,
+    mut player: P,
+    events: &[Event],
+) -> Result<u128, Fault>
     requires { P.is_new player }
 {
-    player.play(events)
+    let Ok(start) = Instant::now(rt) else {
+        return Err(Fault::Clock);
+    };
+    player.play(events)?;
+    match start.elapsed(rt) {
+        Ok(elapsed) => Ok(elapsed.as_nanos()),
+        Err(_) => Err(Fault::Clock),
+    }
 }
 
 fn drain(hall: &mut Hall)

@@ -1,6 +1,7 @@
 ghost use Rattle.std.specs.Prelude.{◌≡◌, ◌≢◌, ◌+◌, ◌≤◌, not, IsOk, OnOk, OnErr, IsSome, Some, is_some};
 ghost use Rattle.std.specs.Option.{option_copied, option_copied_mut};
 ghost use Rattle.std.specs.Borrow.{sem};
+ghost use Rattle.std.specs.HashMap.{spare};
 ghost use Rattle.std.specs.FinMap as map;
 ghost use Rattle.mea_base.specs.Named as entries;
 ghost use Rattle.mea_by_name.specs.Beside.{stands, may_stand, may_follow};
@@ -46,6 +47,39 @@ impl<X: Drop> Drop for Roomy<X> {
     }
 }
 
+// What a map has at a name, if anything. The kit's map writes its search out at each call: these three calls stand apart, so
+// that those of what stands beside the map are short.
+#[inline(never)]
+fn get_in<X>(map: &HashMap<u64, X, NameHasher>, name: u64) -> Option<&X>
+    ensures { option_copied result ≡ entries.at map.now.entries name }
+{
+    map.get(&name)
+}
+
+// Puts a thing into a map, at a name. On an error the map has the same entries.
+#[inline(never)]
+fn put_in<X: Drop>(map: &mut HashMap<u64, X, NameHasher>, name: u64, x: X) -> Result<(), NoMemory>
+    ensures changes { OnOk result (entries.ChangesAt map.old.entries map.new.entries name (Some x)) }
+    ensures spare { spare map.old ≤ spare map.new + 1 }
+    ensures err { OnErr result (map.new.entries ≡ map.old.entries) }
+    ensures succeeds { 1 ≤ spare map.old → IsOk result }
+{
+    match map.insert(name, x) {
+        Ok(_) => Ok(()),
+        Err(_) => Err(NoMemory),
+    }
+}
+
+// Takes the thing of a name out of a map, if there is one.
+#[inline(never)]
+fn take_from<X>(map: &mut HashMap<u64, X, NameHasher>, name: u64) -> Option<X>
+    ensures value { result ≡ entries.at map.old.entries name }
+    ensures changes { entries.ChangesAt map.old.entries map.new.entries name None }
+    ensures spare { spare map.old ≤ spare map.new }
+{
+    map.remove(&name)
+}
+
 // Whether there is a thing, and this is its name.
 #[inline(always)]
 fn stands<X>(own: u64, one: &Option<X>, name: u64) -> bool
@@ -62,7 +96,7 @@ fn stands<X>(own: u64, one: &Option<X>, name: u64) -> bool
 fn lacks<X>(map: &HashMap<u64, X, NameHasher>, name: u64) -> bool
     ensures { result ≡ not (is_some (entries.at map.now.entries name)) }
 {
-    map.is_empty() || !map.contains_key(&name)
+    map.is_empty() || get_in(map, name).is_none()
 }
 
 // Whether the thing of a name stands beside the map, or may be put there.
@@ -125,7 +159,7 @@ impl<X> Roomy<X> {
         if stands(self.name, &self.one, name) {
             self.one.as_ref()
         } else {
-            self.map.get(&name)
+            get_in(&self.map, name)
         }
     }
 
@@ -179,10 +213,10 @@ impl<X> Roomy<X> {
             self.one = Some(x);
             return Ok(());
         }
-        match self.map.insert(name, x) {
-            Ok(_) => Ok(()),
-            Err(_) => Err(NoMemory),
-        }
+        let Ok(()) = put_in(&mut self.map, name, x) else {
+            return Err(NoMemory);
+        };
+        Ok(())
     }
 
     // Takes the thing at a name away, and puts one at another name. On an error no thing has changed.
@@ -238,7 +272,7 @@ impl<X> Roomy<X> {
         if stands(self.name, &self.one, name) {
             self.one.take()
         } else {
-            self.map.remove(&name)
+            take_from(&mut self.map, name)
         }
     }
 }

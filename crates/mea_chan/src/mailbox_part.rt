@@ -1,4 +1,5 @@
 ghost use Rattle.std.specs.Prelude.{◌≡◌, ◌≢◌, ◌≤◌, IfSome, is_some, Some, if◌then◌else◌};
+ghost use Rattle.mea_family.specs.declared.answer.Answer.TheVariants as answers;
 ghost use Rattle.mea_chan_model.specs.Mailboxes.{no_mailboxes, is_channel, is_receiver, registered};
 ghost use Rattle.mea_chan_model.specs.MailboxActions.{cause_in, Make, Copy, Send, SendLast, EndSender, Receive, Poll, EndReceiver, IntoFuture, TellClosed, TellOver, TellMessage};
 ghost use Rattle.mea_chan_model.specs.Valid.{AreValid};
@@ -419,7 +420,7 @@ impl<C: SingleCore> MailboxPart<C> {
 }
 
 fn answer_of_send(sent: bool, message: u64) -> Reply
-    ensures { result ≡ (if sent then Answer.Accepted else Answer.Closed message) }
+    ensures { result ≡ (if sent then answers.Accepted else answers.Closed message) }
 {
     if sent {
         Reply(Word::Accepted)

@@ -5,3 +5,5 @@ pub mod Mailbox
 pub mod Oneshot
 pub mod InOrder
 pub mod Woken
+pub mod BoxLends
+pub mod OptionBoxLends

@@ -6,7 +6,7 @@ ghost use Rattle.mea_chan_core.specs.Woken.{IsChannel};
 ghost use Rattle.mea_chan_core.specs.Bounded.{send_answer, after_send, recv_answer, after_recv, without_receiver, without_sender, PollsRecv, Leaves, MayQueueAnew, StaysPending, PollsSend, EndsSend, IsOut, IsIn, number_of};
 
 use crate::errors::{RecvError, SendError, TryRecvError, TrySendError};
-use crate::moving::{move_waker, move_wakes, queue_new};
+use crate::moving::{move_waker, move_wakes, queue_new, take_queued};
 use crate::send_wait::SendWait;
 use mea_base::{NoMemory, Outbox, Overflow, Poll};
 use mea_sem_core::{Acquire, SemCore};
@@ -55,7 +55,7 @@ impl<T, W> Model for BoundedCore<T, W> {
       waiting : IsSenders c.waiting;
       room : length c.waiting.queue + length (option_to_list c.waker) ≤ c.outbox.spare;
       fits : length c.messages.items ≤ c.capacity;
-      reserved : c.capacity ≤ deque_capacity c.messages;
+      reserved : c.ended ≡ false → c.capacity ≤ deque_capacity c.messages;
       fallen : c.ended ≡ true → c.messages.items ≡ [];
       awake : IsSome c.waker → c.ended ≡ false → c.messages.items ≡ [];
       lives : IsSome c.waker → c.ended ≡ false → 0 < c.senders;
@@ -266,10 +266,19 @@ impl<T: Drop, W: Drop> BoundedCore<T, W> {
         requires { self.old.ended ≡ false }
         ensures { self.new ≡ without_receiver self.old }
     {
-        self.messages.clear();
+        drop(self.close());
+    }
+
+    // The same, with the queued messages handed out.
+    pub(crate) fn close(&mut self) -> VecDeque<T>
+        requires { self.old.ended ≡ false }
+        ensures is { self.new ≡ without_receiver self.old }
+        ensures queued { result.items ≡ self.old.queued }
+    {
+        self.ended = true;
         self.waiting.wake_queue();
         move_wakes(&mut self.waiting, &mut self.outbox);
-        self.ended = true;
+        take_queued(&mut self.messages)
     }
 
     /// How many wakers are to be called. It takes no memory.

@@ -1,4 +1,5 @@
 ghost use Rattle.std.specs.Prelude.{◌≡◌};
+ghost use Rattle.std.specs.Borrow.{sem};
 
 /// The core of a box whose content is swapped whole. No call takes memory. It ports `mea::atomicbox::AtomicBox` as pure
 /// state.
@@ -14,6 +15,8 @@ impl<T: Drop> Drop for BoxCore<T> {
 }
 
 impl<T: Drop> BoxCore<T> {
+    ghost use Rattle.mea_chan_core.specs.BoxLends.{lends_content};
+
     /// A box with this content.
     pub fn new(value: Box<T>) -> Self
         ensures { result.content ≡ value }
@@ -61,7 +64,8 @@ impl<T: Drop> BoxCore<T> {
 
     /// Lends the content.
     pub fn get_mut(&mut self) -> &mut T
-        ensures { result.now ≡ self.old.content.value }
+        ensures* writes_back { sem 𝓛 (lends_content T.row self.entry result) }
+        ensures value { result.now ≡ self.old.content.value }
     {
         &mut self.content
     }

@@ -1,4 +1,4 @@
-ghost use Rattle.std.specs.Prelude.{◌≡◌, ◌≢◌, ◌+◌, ◌<◌, ◌↔◌, Some, true, false, IsTrue, IsErr, OnOk, OnErr};
+ghost use Rattle.std.specs.Prelude.{◌≡◌, ◌≢◌, ◌+◌, ◌<◌, ◌↔◌, Some, true, false, IsTrue, IsErr, IsNone, IfSome, OnOk, OnErr};
 
 use crate::bounded::BoundedCore;
 use crate::errors::SendError;
@@ -6,6 +6,7 @@ use crate::oneshot::OneshotCore;
 use crate::send_wait::SendWait;
 use crate::unbounded::UnboundedCore;
 use mea_base::{NoMemory, Overflow, Poll};
+use std::collections::VecDeque;
 
 /// The tests of what a call asks of the channel, and the calls in a form that asks for nothing.
 impl<T: Drop, W: Drop> BoundedCore<T, W> {
@@ -81,13 +82,18 @@ impl<T: Drop, W: Drop> BoundedCore<T, W> {
         }
     }
 
-    /// `end_receiver`, which changes nothing where the receiver has ended. It takes no memory.
-    pub fn end_receiver_checked(&mut self)
+    /// `end_receiver`, which hands the queued messages out, so that who holds a lock drops them outside it. Where the
+    /// receiver has ended it changes nothing. It takes no memory.
+    pub fn end_receiver_checked(&mut self) -> Option<VecDeque<T>>
         ensures allowed { self.old.ended ≡ false → self.new ≡ without_receiver self.old }
         ensures ended { self.old.ended ≡ true → self.new ≡ self.old }
+        ensures none { IsNone result ↔ (self.old.ended ≡ true) }
+        ensures queued { IfSome result (λ queued. queued.items ≡ self.old.queued) }
     {
-        if !self.is_closed() {
-            self.end_receiver();
+        if self.is_closed() {
+            None
+        } else {
+            Some(self.close())
         }
     }
 }
@@ -127,13 +133,18 @@ impl<T: Drop, W: Drop> UnboundedCore<T, W> {
         }
     }
 
-    /// `end_receiver`, which changes nothing where the receiver has ended. It takes no memory.
-    pub fn end_receiver_checked(&mut self)
+    /// `end_receiver`, which hands the queued messages out, so that who holds a lock drops them outside it. Where the
+    /// receiver has ended it changes nothing. It takes no memory.
+    pub fn end_receiver_checked(&mut self) -> Option<VecDeque<T>>
         ensures allowed { self.old.ended ≡ false → self.new ≡ without_receiver self.old }
         ensures ended { self.old.ended ≡ true → self.new ≡ self.old }
+        ensures none { IsNone result ↔ (self.old.ended ≡ true) }
+        ensures queued { IfSome result (λ queued. queued.items ≡ self.old.queued) }
     {
-        if !self.is_closed() {
-            self.end_receiver();
+        if self.is_closed() {
+            None
+        } else {
+            Some(self.close())
         }
     }
 }

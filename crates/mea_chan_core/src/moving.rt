@@ -5,6 +5,8 @@ ghost use Rattle.mea_chan_core.specs.Channel.{IsSenders};
 
 use mea_base::{NoMemory, Outbox};
 use mea_sem_core::{Acquire, SemCore};
+use std::collections::VecDeque;
+use std::mem;
 
 /// Makes the waker ready, if there is one.
 pub fn move_waker<W>(waker: &mut Option<W>, outbox: &mut Outbox<W>)
@@ -28,6 +30,15 @@ pub fn move_wakes<W: Drop>(semaphore: &mut SemCore<W>, outbox: &mut Outbox<W>)
     while let Some(waker) = semaphore.next_wake() {
         outbox.push(waker);
     }
+}
+
+/// Takes what is queued, with the room of the queue.
+pub fn take_queued<T>(messages: &mut VecDeque<T>) -> VecDeque<T>
+    ensures taken { result ≡ messages.old }
+    ensures left { messages.new.items ≡ [] }
+{
+    let empty = VecDeque::new(*messages.allocator());
+    mem::replace(messages, empty)
 }
 
 /// Puts a new acquire at the tail of the senders; the free permits are lost. Where there is no memory nothing has

@@ -1,5 +1,6 @@
 ghost use Rattle.std.specs.Prelude.{◌≡◌, None};
 ghost use Rattle.std.specs.Option.{option_map};
+ghost use Rattle.std.specs.Borrow.{sem};
 
 /// The core of a box that may be empty, and whose content is swapped whole. No call takes memory. It ports
 /// `mea::atomicbox::AtomicOptionBox` as pure state.
@@ -15,6 +16,8 @@ impl<T: Drop> Drop for OptionBoxCore<T> {
 }
 
 impl<T: Drop> OptionBoxCore<T> {
+    ghost use Rattle.mea_chan_core.specs.OptionBoxLends.{lends_content};
+
     /// A box with this content, or without one.
     pub fn new(value: Option<Box<T>>) -> Self
         ensures { result.content ≡ value }
@@ -80,7 +83,8 @@ impl<T: Drop> OptionBoxCore<T> {
 
     /// Lends the content, if there is one.
     pub fn get_mut(&mut self) -> Option<&mut T>
-        ensures { option_map (λ lent. lent.now) result ≡ option_map (λ content. content.value) self.old.content }
+        ensures* writes_back { sem 𝓛 (lends_content T.row self.entry result) }
+        ensures value { option_map (λ lent. lent.now) result ≡ option_map (λ content. content.value) self.old.content }
     {
         match &mut self.content {
             Some(content) => Some(&mut **content),

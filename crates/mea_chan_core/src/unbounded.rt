@@ -2,7 +2,7 @@ ghost use Rattle.std.specs.Prelude.{◌≡◌, ◌+◌, ◌<◌, ◌^◌, ◌↔
 ghost use Rattle.mea_chan_core.specs.Mailbox.{Mailbox, with_message, recv_answer, after_recv, PollsRecv, without_receiver, without_sender};
 
 use crate::errors::{RecvError, TryRecvError, UnboundedError};
-use crate::moving::move_waker;
+use crate::moving::{move_waker, take_queued};
 use mea_base::{NoMemory, Outbox, Overflow, Poll};
 use std::alloc::Global;
 use std::collections::VecDeque;
@@ -167,8 +167,17 @@ impl<T: Drop, W: Drop> UnboundedCore<T, W> {
         requires { self.old.ended ≡ false }
         ensures { self.new ≡ without_receiver self.old }
     {
-        self.messages.clear();
+        drop(self.close());
+    }
+
+    // The same, with the queued messages handed out.
+    pub(crate) fn close(&mut self) -> VecDeque<T>
+        requires { self.old.ended ≡ false }
+        ensures is { self.new ≡ without_receiver self.old }
+        ensures queued { result.items ≡ self.old.queued }
+    {
         self.ended = true;
+        take_queued(&mut self.messages)
     }
 
     /// How many wakers are to be called. It takes no memory.

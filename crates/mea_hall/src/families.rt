@@ -5,7 +5,7 @@ ghost use Rattle.mea_hall.specs.Families.{world_of, AreBelow, PlaysFamilies};
 use mea_base::Ready;
 use mea_chan::ChanFamily;
 use mea_events::Event;
-use mea_family::{Answer, Stop};
+use mea_family::{Answer, Reply, Stop};
 use mea_family_hall::Family;
 use mea_lock::LockFamily;
 use mea_meet::MeetFamily;
@@ -90,11 +90,22 @@ impl Families {
     {
         match event {
             Event::Sem(event) => self.semaphores.act(number, event, ready),
-            Event::Meet(event) => Ok(self.meets.act(number, event, ready)?.into_answer()),
-            Event::Lock(event) => Ok(self.locks.act(number, event, ready)?.into_answer()),
-            Event::Chan(event) => Ok(self.chans.act(number, event, ready)?.into_answer()),
-            Event::Share(event) => Ok(self.shares.act(number, event, ready)?.into_answer()),
-            Event::Once(event) => Ok(self.onces.act(number, event, ready)?.into_answer()),
+            Event::Meet(event) => answered(self.meets.act(number, event, ready)),
+            Event::Lock(event) => answered(self.locks.act(number, event, ready)),
+            Event::Chan(event) => answered(self.chans.act(number, event, ready)),
+            Event::Share(event) => answered(self.shares.act(number, event, ready)),
+            Event::Once(event) => answered(self.onces.act(number, event, ready)),
         }
+    }
+}
+
+// What the hall of a family replied, as an answer.
+#[inline(always)]
+fn answered(replied: Result<Reply, Stop>) -> Result<Answer, Stop>
+    ensures { result ≡ replied }
+{
+    match replied {
+        Ok(reply) => Ok(reply.into_answer()),
+        Err(stop) => Err(stop),
     }
 }

@@ -19,16 +19,23 @@ use Rattle.mea_by_name.specs.declared.named_waker.NamedWaker.{NamedWaker}
 use Rattle.mea_lock_core.specs.RwLock.{MayPoll, MayCancel, share_of, is_write}
 use Rattle.mea_lock_model.specs.Locks as model
 use Rattle.mea_lock_model.specs.declared.until.Until.{Until}
+use Rattle.mea_lock_model.specs.declared.until.Until.TheVariants as untils
 use Rattle.mea_lock_model.specs.Locks.{Lock, LockFuture, Locks, goes_on, taken_from, was_polled, is_condvar_future, is_waiting_for, things_of, registered, tidied_locks, size}
 use Rattle.mea_lock_model.specs.Actions.{Action, act_in, Poll, PollUntil, EndWait}
 use Rattle.mea_cores_by_name.specs.Linked.{names_in}
 use Rattle.mea_lock.specs.declared.guard_entry.GuardEntry.{GuardEntry}
 use Rattle.mea_lock.specs.Cores.{NamedLock, CancelsLock, UnlocksLock, IsHeldAs}
 use Rattle.mea_lock.specs.Entries.{KeptLock, KeptFuture, finished, settled, is_over, Settles, EndsLock, Polled, HasLock}
-use Rattle.mea_lock.specs.Waits.{IsNewWait, is_polled}
+use Rattle.mea_lock.specs.Waits.{IsNewWait, is_polled, may_go_on}
 use Rattle.mea_lock.specs.Parts.{lock_seen, future_seen, guard_seen, locks_seen, AreKept, AreKeptLocks, of_future, of_guard}
 use Rattle.mea_lock.proofs.OneLock as one
 use Rattle.mea_lock.proofs.PartEvents.{Site, tidied_seen, waiting_tidied, tidied_kept, waiters, part_of, writing_ready, writing_pending, free_ready, polled_by, yields_as, no_guard, its_kept, found_lock, waiting_now, turns}
+
+-- one that gave the lock up may go on waiting
+pub lays_may : (until : Until) (v : ℕ) → goes_on until v ≡ true → may_go_on until ≡ true
+lays_may untils.Held v on = absurd (cc)
+lays_may (untils.Reached least) v on = refl
+lays_may untils.Never v on = refl
 
 module _ {old : Part Locks} {i : ℕ} (s : Site old i) where
   -- ---- by a future

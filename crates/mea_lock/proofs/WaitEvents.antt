@@ -21,7 +21,7 @@ use Rattle.mea_by_name.proofs.NamedQueues.{length-with_waker}
 use Rattle.mea_by_name.proofs.Cases.{found_is, if_true, if_false}
 use Rattle.mea_by_name.proofs.Halls as halls
 use Rattle.mea_by_name.proofs.Own.{seen-at, seen-empty, seen-insert, seen-remove, seen-alike, own-seen, len-seen, total-seen, own-at, own-had, own-none, own-put, own-gone, own-empty, len-some, len-total, insert_same, Moves, Stays, Comes, Goes, moves_elsewhere, moves_home}
-use Rattle.mea_lock_core.specs.Condvar.{Condvar, Lists, Knows, waker_under, without_wait}
+use Rattle.mea_lock_core.specs.Condvar.{Condvar, Lists, Knows, waker_under}
 use Rattle.mea_lock_model.specs.Locks as locks
 use Rattle.mea_lock_model.specs.Locks.{Locks, was_polled}
 use Rattle.mea_lock_model.specs.Condvars as model
@@ -33,7 +33,7 @@ use Rattle.mea_lock_model.specs.declared.cond_action.CondAction.TheVariants.{Mak
 use Rattle.mea_lock_model.specs.CondActions.{act_on, on_both, told_by}
 use Rattle.mea_lock_model.specs.LockHall.{LockHall}
 use Rattle.mea_lock.specs.declared.wait_entry.WaitEntry.{WaitEntry}
-use Rattle.mea_lock.specs.CondEntries.{KeptCondvar, listed_in, wakers_in, condvar_seen, wait_seen, IsWaitingUnder, rewoken_under, left_under, forgotten_under, NotifiesFirst, NotifiesEach}
+use Rattle.mea_lock.specs.CondEntries.{KeptCondvar, listed_in, wakers_in, condvar_seen, wait_seen, IsWaitingUnder, ListsAt, counted_at, rewoken_under, left_under, forgotten_under, NotifiesFirst, NotifiesEach}
 use Rattle.mea_lock.specs.CondParts.{condvars_seen, AreOf, AreListed, AreGood, AreKept, of_wait}
 use Rattle.mea_lock.specs.Halls.{PlaysWaits}
 use Rattle.mea_lock.specs.Lends.{ListsAs, counted_by, notified_by}
@@ -121,33 +121,46 @@ new_condvar = record { condvar = record { waiting = []; notified = empty; wakes 
 abbrev hall_with : Part Locks → Part Locks → Condvars → LockHall
 hall_with m l v = record { mutexes = m.hall; rw_locks = l.hall; condvars = v }
 
--- a place that was taken and is given up leaves what there was
-pub given_up : (e e1 : KeptCondvar) (place : ℕ) (k : NamedWaker) → Lists e.condvar e1.condvar place k → e1 ≡ record e { condvar = e1.condvar }
-    → record e1 { condvar = record e1.condvar { waiting = without_wait e1.condvar.waiting place } } ≡ e
-given_up e e1 place k lists is =
-    ap (λ (d : KeptCondvar). record d { condvar = record d.condvar { waiting = without_wait d.condvar.waiting place } }) (is ∙ ap (λ s. record e { condvar = s }) lists.is)
-    ∙ ap (λ q. record e { condvar = record e.condvar { waiting = q } }) (one.end-without e.condvar.waiting place k lists.not_waiting)
+-- a place that was taken, if one was, and is given up leaves what there was
+pub given_up : (e e1 : KeptCondvar) (place : Option ℕ) (k : NamedWaker) → ListsAt e e1 place k → left_under e1 place ≡ e
+given_up e e1 None k same = same
+given_up e e1 (Some n) k listed =
+    ap (λ (d : KeptCondvar). left_under d (Some n)) (listed.1 ∙ ap (λ s. record e { condvar = s }) listed.0.is)
+    ∙ ap (λ q. record e { condvar = record e.condvar { waiting = q } }) (one.end-without e.condvar.waiting n k listed.0.not_waiting)
 
 -- where it is given up after what was there before was forgotten, that alone was
-pub forgotten_alone : (e e1 e2 e3 : KeptCondvar) (place : ℕ) (k : NamedWaker) (number : Option ℕ) → Lists e.condvar e1.condvar place k → e1 ≡ record e { condvar = e1.condvar } → e2 ≡ forgotten_under e1 number
-    → e3 ≡ record e2 { condvar = record e2.condvar { waiting = without_wait e2.condvar.waiting place } } → e3 ≡ forgotten_under e number
-forgotten_alone e e1 e2 e3 place k number lists is forgotten left =
-    left ∙ ap (λ (d : KeptCondvar). record d { condvar = record d.condvar { waiting = without_wait d.condvar.waiting place } }) forgotten
-    ∙ ap (λ (d : KeptCondvar). forgotten_under d number) (given_up e e1 place k lists is)
+pub forgotten_alone : (e e1 e2 e3 : KeptCondvar) (place : Option ℕ) (k : NamedWaker) (number : Option ℕ) → ListsAt e e1 place k → e2 ≡ forgotten_under e1 number → e3 ≡ left_under e2 place → e3 ≡ forgotten_under e number
+forgotten_alone e e1 e2 e3 place k number listed forgotten left =
+    left ∙ ap (λ (d : KeptCondvar). left_under d place) forgotten ∙ ap (λ (d : KeptCondvar). forgotten_under d number) (given_up e e1 place k listed)
 
--- and the waker that was counted for it is counted no more
-pub uncounted : (r r1 r2 r3 : Waking ℕ) → r1 ≡ record r { registered = r.registered + 1 } → r2 ≡ r1 → r3 ≡ record r2 { registered = r2.registered - 1 } → r3 ≡ r
-uncounted r r1 r2 r3 more same less = less ∙ ap (λ (r : Waking ℕ). record r { registered = r.registered - 1 }) (same ∙ more) ∙ (λ j. record { wakers = r.wakers; registered = back r.registered j })
+-- and the wakers that were counted for it are counted no more
+pub uncounted : (r r1 r2 r3 : Waking ℕ) (n : ℕ) → r1 ≡ record r { registered = r.registered + n } → r2 ≡ r1 → r3 ≡ record r2 { registered = r2.registered - n } → r3 ≡ r
+uncounted r r1 r2 r3 n more same less = less ∙ ap (λ (r : Waking ℕ). record r { registered = r.registered - n }) (same ∙ more) ∙ (λ j. record { wakers = r.wakers; registered = back r.registered j })
   where
-    back : (n : ℕ) → n + 1 - 1 ≡ n
-    back n = omega arith
+    back : (m : ℕ) → m + n - n ≡ m
+    back m = omega arith
+
+-- a place that was taken changes nothing of those that were notified
+pub notified_still : (e e1 : KeptCondvar) (place : Option ℕ) (k : NamedWaker) → ListsAt e e1 place k → e1.condvar.notified ≡ e.condvar.notified
+notified_still e e1 None k same = ap (λ (d : KeptCondvar). d.condvar.notified) same
+notified_still e e1 (Some n) k listed = ap (λ (s : Condvar NamedWaker). s.notified) listed.0.is
+
+-- one that waits under a number has one, for which a waker is counted
+pub under_waits : (s : Condvar NamedWaker) (number : Option ℕ) → IsWaitingUnder s number → IfSome number (λ n. IsSome (waker_under s.waiting n))
+under_waits s None under = absurd under
+under_waits s (Some n) under = under
+
+pub one_counted : (s : Condvar NamedWaker) (number : Option ℕ) → IsWaitingUnder s number → counted_at number ≡ 1
+one_counted s None under = absurd under
+one_counted s (Some n) under = refl
 
 -- what is refused does not hold
 pub refuted : {P : Type 0} (b : Bool) → IsTrue b ↔ P → b ≡ false → P → ⊥
 refuted b is wrong p = absurd (let right = is.1 p in cc)
 
-pub place_waits : (e e1 : KeptCondvar) (place : ℕ) (k : NamedWaker) → Lists e.condvar e1.condvar place k → IsSome (waker_under e1.condvar.waiting place)
-place_waits e e1 place k lists = ap (λ (s : Condvar NamedWaker). is_some (waker_under s.waiting place)) lists.is ∙ ap is_some (one.end-there e.condvar.waiting place k lists.not_waiting)
+pub place_waits : (e e1 : KeptCondvar) (place : Option ℕ) (k : NamedWaker) → ListsAt e e1 place k → IfSome place (λ n. IsSome (waker_under e1.condvar.waiting n))
+place_waits e e1 None k same = tt
+place_waits e e1 (Some n) k listed = ap (λ (s : Condvar NamedWaker). is_some (waker_under s.waiting n)) listed.0.is ∙ ap is_some (one.end-there e.condvar.waiting n k listed.0.not_waiting)
 
 module _ {old : Part Condvars} {i : ℕ} (s : Site old i) where
   abbrev now : Condvars
@@ -402,8 +415,8 @@ module _ {old : Part Condvars} {i : ℕ} (s : Site old i) where
                   (sym (append-nil r.wakers)) (omega (arith, counted, many)) (omega arith),
             )
 
-    -- ---- one that does not wait asks its mutex; its place was taken first
-    module _ (w : ℕ) (not : IsWaitingUnder e.condvar x.number → ⊥) (m m' : Part Locks) (r0 r1 r2 : Waking ℕ) (room : locks.registered m.hall + registered old.hall ≤ r0.registered) (one_more : r1 ≡ record r0 { registered = r0.registered + 1 }) where
+    -- ---- one that does not wait asks its mutex; its place was taken first, where it may go on waiting
+    module _ (w : ℕ) (not : IsWaitingUnder e.condvar x.number → ⊥) (m m' : Part Locks) (r0 r1 r2 : Waking ℕ) (room : locks.registered m.hall + registered old.hall ≤ r0.registered) (place : Option ℕ) (counted_more : r1 ≡ record r0 { registered = r0.registered + counted_at place }) where
       idle : waits (listed_in e.condvar.waiting) f ≡ false
       idle = one.waits_not e _ (good x.condvar e there) f x own_wait not
 
@@ -411,24 +424,24 @@ module _ {old : Part Condvars} {i : ℕ} (s : Site old i) where
       asking = PollUntil f w (until_of (wait_seen x))
 
       module _ (answer : Answer) (yields : PartYields locks.registered m i (act_in m.hall i asking) answer m' r1 r2) where
-        pub one_left : 1 ≤ r2.registered
-        one_left =
-            let more = ap (λ (r : Waking ℕ). r.registered) one_more in
+        pub still_counted : counted_at place ≤ r2.registered
+        still_counted =
+            let more = ap (λ (r : Waking ℕ). r.registered) counted_more in
             omega (arith, room, more, yields.counted)
 
         asks_as : (v : Condvars) (cs' : Names KeptCondvar) (ws' : Names WaitEntry) (r3 : Waking ℕ) → ((l : Part Locks) → (told_by (act_in m.hall i asking) now f w (wait_seen x) (condvar_seen e)) ≡ quietly v answer) → seen condvar_seen cs' ≡ v.condvars → seen wait_seen ws' ≡ v.waits
-            → r3.wakers ≡ r2.wakers → r3.registered + 1 + waiting_in s.cs ≡ r2.registered + waiting_in cs' → PlaysWaits m old i (Poll f w) answer m' (part_of cs' ws' (i + 1)) r0 r3
+            → r3.wakers ≡ r2.wakers → r3.registered + counted_at place + waiting_in s.cs ≡ r2.registered + waiting_in cs' → PlaysWaits m old i (Poll f w) answer m' (part_of cs' ws' (i + 1)) r0 r3
         asks_as v cs' ws' r3 told condvars waits wakers counted =
-            let more = ap (λ (r : Waking ℕ). r.registered) one_more in
+            let more = ap (λ (r : Waking ℕ). r.registered) counted_more in
             let mutexes = ap (λ (p : Part Locks). locks.registered p.hall) yields.moved in
             let next : m'.next ≡ i + 1 = ap (λ (p : Part Locks). p.next) yields.moved in
             plays_as (Poll f w) answer m m' v cs' ws' r0 r3 (act_in m.hall i asking).wakes
             (λ l. found_wait m l _ ∙ if_false _ _ _ idle ∙ ap (on_both (hall_with m l now) (act_in m.hall i asking)) (told l)
             ∙ (λ j. record { hall = hall_with (sym yields.moved j) l v; reply = sym yields.replied j; wakes = append-nil (act_in m.hall i asking).wakes j }))
-            condvars waits (wakers ∙ yields.woken ∙ ap (λ (r : Waking ℕ). r.wakers ++ (act_in m.hall i asking).wakes) one_more) (omega (arith, more, mutexes, counted, yields.counted, room)) (omega (arith, next))
+            condvars waits (wakers ∙ yields.woken ∙ ap (λ (r : Waking ℕ). r.wakers ++ (act_in m.hall i asking).wakes) counted_more) (omega (arith, more, mutexes, counted, yields.counted, room)) (omega (arith, next))
 
       -- it has the lock, and is over
-      pub ready : PartYields locks.registered m i (act_in m.hall i asking) answers.Ready m' r1 r2 → (r3 : Waking ℕ) → r3 ≡ record r2 { registered = r2.registered - 1 }
+      pub ready : PartYields locks.registered m i (act_in m.hall i asking) answers.Ready m' r1 r2 → (r3 : Waking ℕ) → r3 ≡ record r2 { registered = r2.registered - counted_at place }
           → AreKept (insert s.cs x.condvar (record (forgotten_under e x.number) { waits = e.waits - 1 })) (remove s.ws f) (i + 1)
           × PlaysWaits m old i (Poll f w) answers.Ready m' (part_of (insert s.cs x.condvar (record (forgotten_under e x.number) { waits = e.waits - 1 })) (remove s.ws f) (i + 1)) r0 r3
       ready yields r3 less =
@@ -436,7 +449,7 @@ module _ {old : Part Condvars} {i : ℕ} (s : Site old i) where
           let fewer = ap (λ (r : Waking ℕ). r.registered) less in (
             turns x.condvar e there (record (forgotten_under e x.number) { waits = e.waits - 1 }) (remove s.ws f) goes (rw (own-gone of_wait x.condvar s.ws f) (one.is_over e _ (good x.condvar e there) f x own_wait idle)) (omega arith),
             asks_as answers.Ready yields _ _ (remove s.ws f) r3 (λ l. if_false _ _ _ (ap is_pending (sym yields.replied)))
-                (seen-alike condvar_seen s.cs x.condvar e (record (forgotten_under e x.number) { waits = e.waits - 1 }) there refl) (seen-remove wait_seen s.ws f) (ap (λ (r : Waking ℕ). r.wakers) less) (omega (arith, counted, fewer, one_left answers.Ready yields)),
+                (seen-alike condvar_seen s.cs x.condvar e (record (forgotten_under e x.number) { waits = e.waits - 1 }) there refl) (seen-remove wait_seen s.ws f) (ap (λ (r : Waking ℕ). r.wakers) less) (omega (arith, counted, fewer, still_counted answers.Ready yields)),
           )
 
       module _ (yields : PartYields locks.registered m i (act_in m.hall i asking) answers.Pending m' r1 r2) where
@@ -447,7 +460,7 @@ module _ {old : Part Condvars} {i : ℕ} (s : Site old i) where
         asker = record x { polled = true; number = None }
 
         -- it asks for the lock
-        pub asks : was_polled (get m'.hall.futures f) ≡ true → (r3 : Waking ℕ) → r3 ≡ record r2 { registered = r2.registered - 1 }
+        pub asks : was_polled (get m'.hall.futures f) ≡ true → (r3 : Waking ℕ) → r3 ≡ record r2 { registered = r2.registered - counted_at place }
             → AreKept (insert s.cs x.condvar (forgotten_under e x.number)) (insert s.ws f asker) (i + 1)
             × PlaysWaits m old i (Poll f w) answers.Pending m' (part_of (insert s.cs x.condvar (forgotten_under e x.number)) (insert s.ws f asker) (i + 1)) r0 r3
         asks polled r3 less =
@@ -455,35 +468,49 @@ module _ {old : Part Condvars} {i : ℕ} (s : Site old i) where
             let fewer = ap (λ (r : Waking ℕ). r.registered) less in (
               turns x.condvar e there (forgotten_under e x.number) (insert s.ws f asker) (comes asker refl) (rw (own-put of_wait x.condvar s.ws f asker refl) (one.asks e _ (good x.condvar e there) f x own_wait idle asker refl)) (omega arith),
               asks_as answers.Pending yields _ _ (insert s.ws f asker) r3 (λ l. if_true _ _ _ (ap is_pending (sym yields.replied)) ∙ if_true _ _ _ (polled_now true polled))
-                  (seen-alike condvar_seen s.cs x.condvar e (forgotten_under e x.number) there refl) (seen-insert wait_seen s.ws f asker) (ap (λ (r : Waking ℕ). r.wakers) less) (omega (arith, counted, fewer, one_left answers.Pending yields)),
+                  (seen-alike condvar_seen s.cs x.condvar e (forgotten_under e x.number) there refl) (seen-insert wait_seen s.ws f asker) (ap (λ (r : Waking ℕ). r.wakers) less) (omega (arith, counted, fewer, still_counted answers.Pending yields)),
             )
 
         -- it gave the lock up, and is the last that waits
-        module _ (polled : was_polled (get m'.hall.futures f) ≡ false) (place : ℕ) (e1 : KeptCondvar) (listed : Lists e.condvar e1.condvar place (record { name = f; waker = w })) (is : e1 ≡ record e { condvar = e1.condvar }) where
-          abbrev pub lister : WaitEntry
-          lister = record x { polled = true; number = Some place; alone = false }
+        module _ (polled : was_polled (get m'.hall.futures f) ≡ false) (e1 : KeptCondvar) where
+          -- the wait under a number
+          abbrev lister : Option ℕ → WaitEntry
+          lister number = record x { polled = true; number = number; alone = false }
 
-          abbrev with_place : KeptCondvar
-          with_place = record e { condvar = record e.condvar { waiting = e.condvar.waiting ++ (place, record { name = f; waker = w }) ∷ [] } }
+          -- what is to be shown of it
+          abbrev ListedAt : Option ℕ → Type 0
+          ListedAt number = AreKept (insert s.cs x.condvar (forgotten_under e1 x.number)) (insert s.ws f (lister number)) (i + 1)
+              × PlaysWaits m old i (Poll f w) answers.Pending m' (part_of (insert s.cs x.condvar (forgotten_under e1 x.number)) (insert s.ws f (lister number)) (i + 1)) r0 r2
 
-          listed_is : e1 ≡ with_place
-          listed_is = is ∙ ap (λ s. record e { condvar = s }) listed.is
+          module _ (number : ℕ) (one_place : counted_at place ≡ 1) (listed : Lists e.condvar e1.condvar number (record { name = f; waker = w })) (is : e1 ≡ record e { condvar = e1.condvar }) where
+            abbrev with_place : KeptCondvar
+            with_place = record e { condvar = record e.condvar { waiting = e.condvar.waiting ++ (number, record { name = f; waker = w }) ∷ [] } }
 
-          listed_end : (q : List (ℕ × NamedWaker)) → listed_in (q ++ (place, record { name = f; waker = w }) ∷ []) ≡ listed_in q ++ (f, w) ∷ []
-          listed_end [] = refl
-          listed_end (k ∷ q) = ap (λ r. (k.1.name, k.1.waker) ∷ r) (listed_end q)
+            listed_is : e1 ≡ with_place
+            listed_is = is ∙ ap (λ s. record e { condvar = s }) listed.is
 
-          pub lists : AreKept (insert s.cs x.condvar (forgotten_under e1 x.number)) (insert s.ws f lister) (i + 1)
-              × PlaysWaits m old i (Poll f w) answers.Pending m' (part_of (insert s.cs x.condvar (forgotten_under e1 x.number)) (insert s.ws f lister) (i + 1)) r0 r2
-          lists =
-              let counted = waiting_now x.condvar e there (forgotten_under with_place x.number) in
-              let longer = length-append e.condvar.waiting ((place, record { name = f; waker = w }) ∷ []) in
-              rw listed_is (
-                turns x.condvar e there (forgotten_under with_place x.number) (insert s.ws f lister) (comes lister refl)
-                    (rw (own-put of_wait x.condvar s.ws f lister refl) (one.lists e _ (good x.condvar e there) f x own_wait idle place w listed.not_waiting listed.not_notified lister refl refl refl)) (omega arith),
-                asks_as answers.Pending yields _ _ (insert s.ws f lister) r2 (λ l. if_true _ _ _ (ap is_pending (sym yields.replied)) ∙ if_false _ _ _ (polled_now false polled))
-                    (seen-insert condvar_seen s.cs x.condvar (forgotten_under with_place x.number) ∙ ap (insert (seen condvar_seen s.cs) x.condvar) (listed_end e.condvar.waiting)) (seen-insert wait_seen s.ws f lister) refl (omega (arith, counted, longer)),
-              )
+            listed_end : (q : List (ℕ × NamedWaker)) → listed_in (q ++ (number, record { name = f; waker = w }) ∷ []) ≡ listed_in q ++ (f, w) ∷ []
+            listed_end [] = refl
+            listed_end (k ∷ q) = ap (λ r. (k.1.name, k.1.waker) ∷ r) (listed_end q)
+
+            lists_under : ListedAt (Some number)
+            lists_under =
+                let counted = waiting_now x.condvar e there (forgotten_under with_place x.number) in
+                let longer = length-append e.condvar.waiting ((number, record { name = f; waker = w }) ∷ []) in
+                rw listed_is (
+                  turns x.condvar e there (forgotten_under with_place x.number) (insert s.ws f (lister (Some number))) (comes (lister (Some number)) refl)
+                      (rw (own-put of_wait x.condvar s.ws f (lister (Some number)) refl) (one.lists e _ (good x.condvar e there) f x own_wait idle number w listed.not_waiting listed.not_notified (lister (Some number)) refl refl refl)) (omega arith),
+                  asks_as answers.Pending yields _ _ (insert s.ws f (lister (Some number))) r2 (λ l. if_true _ _ _ (ap is_pending (sym yields.replied)) ∙ if_false _ _ _ (polled_now false polled))
+                      (seen-insert condvar_seen s.cs x.condvar (forgotten_under with_place x.number) ∙ ap (insert (seen condvar_seen s.cs) x.condvar) (listed_end e.condvar.waiting)) (seen-insert wait_seen s.ws f (lister (Some number))) refl (omega (arith, counted, longer, one_place)),
+                )
+
+          -- so it is at the place that was taken
+          pub lists : IsSome place → ListsAt e e1 place (record { name = f; waker = w }) → ListedAt place
+          lists = at place refl
+            where
+              at : (number : Option ℕ) → place ≡ number → IsSome number → ListsAt e e1 number (record { name = f; waker = w }) → ListedAt number
+              at None is some same = absurd (cc)
+              at (Some n) is some listed = lists_under n (ap counted_at is) listed.0 listed.1
 
     -- ---- it ends, after its future at the mutex
     module _ (m m' : Part Locks) (answer : Answer) (r0 r1 : Waking ℕ) (room : locks.registered m.hall + registered old.hall ≤ r0.registered) (yields : PartYields locks.registered m i (act_in m.hall i (EndWait f)) answer m' r0 r1) where

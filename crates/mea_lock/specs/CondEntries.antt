@@ -7,7 +7,7 @@ use Rattle.mea_by_name.specs.declared.named_waker.NamedWaker.{NamedWaker}
 use Rattle.mea_by_name.specs.NamedQueue.{Waiting}
 use Rattle.std.specs.Option.{IsSome}
 use Rattle.std.specs.FinMap as fin
-use Rattle.mea_lock_core.specs.Condvar.{Condvar, condvar_code, waker_under, with_waker, without_wait, notifying}
+use Rattle.mea_lock_core.specs.Condvar.{Condvar, condvar_code, Lists, waker_under, with_waker, without_wait, notifying}
 use Rattle.mea_lock_model.specs.Condvars.{CondWait}
 use Rattle.mea_lock.specs.declared.wait_entry.WaitEntry.{WaitEntry}
 use Rattle.mea_by_name.specs.NamedWaker.{waker_code}
@@ -34,6 +34,17 @@ condvar_seen e = listed_in e.condvar.waiting
 
 abbrev pub wait_seen : WaitEntry → CondWait
 wait_seen x = record { condvar = x.condvar; bound = x.bound; polled = x.polled; listed = is_some x.number; alone = x.alone }
+
+-- ---- a wait that was listed, at a place if it is to have one
+-- how many wakers are counted for it
+abbrev pub counted_at : Option ℕ → ℕ
+counted_at None = 0
+counted_at (Some n) = 1
+
+-- and what listing it did; nothing, where it has no place
+abbrev pub ListsAt : KeptCondvar → KeptCondvar → Option ℕ → NamedWaker → Type 0
+ListsAt old new None k = new ≡ old
+ListsAt old new (Some n) k = Lists old.condvar new.condvar n k × (new ≡ record old { condvar = new.condvar })
 
 -- ---- a wait under a number, if it is listed
 abbrev pub IsWaitingUnder : Condvar NamedWaker → Option ℕ → Type 0

@@ -7,6 +7,8 @@ use Rattle.mea_lock_core.specs.declared.rw_wait.RwWait.{RwWait}
 use Rattle.mea_lock.specs.Cores.{NamedLock, acquire_of}
 use Rattle.mea_family.specs.declared.answer.Answer.{Answer}
 use Rattle.mea_family.specs.declared.answer.Answer.TheVariants as answers
+use Rattle.mea_lock_model.specs.declared.until.Until.{Until}
+use Rattle.mea_lock_model.specs.declared.until.Until.TheVariants as untils
 use Rattle.mea_lock.specs.declared.until.Asked.{Asked}
 use Rattle.mea_lock.specs.declared.until.Asked.TheVariants as asked
 
@@ -20,6 +22,12 @@ abbrev pub AsksFor : Asked → Bool → Type 0
 AsksFor asked.Ready asks = Unit {0}
 AsksFor asked.Asks asks = asks ≡ true
 AsksFor asked.Lays asks = asks ≡ false
+
+-- whether one that has the lock goes on waiting at some value
+abbrev pub may_go_on : Until → Bool
+may_go_on untils.Held = false
+may_go_on (untils.Reached least) = true
+may_go_on untils.Never = true
 
 abbrev pub has_number : Acquire → Bool
 has_number (acquire.New d) = false

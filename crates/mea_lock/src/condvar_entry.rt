@@ -1,4 +1,4 @@
-ghost use Rattle.std.specs.Prelude.{◌≡◌, ◌+◌, ◌-◌, ◌<◌, ◌≤◌, ◌^◌, [], nat_lt, length, IsTrue, IsSome, IfOk, IfSome, IfNone, OnErr, ◌↔◌};
+ghost use Rattle.std.specs.Prelude.{◌≡◌, ◌+◌, ◌-◌, ◌<◌, ◌≤◌, ◌^◌, [], nat_lt, length, is_some, IsTrue, IsSome, IfOk, IfSome, IfNone, OnErr, ◌↔◌};
 ghost use Rattle.std.specs.FinMap as map;
 ghost use Rattle.mea_lock_core.specs.Condvar.{Knows, Lists, waker_under, without_wait};
 
@@ -8,7 +8,7 @@ use mea_lock_core::CondvarCore;
 use std::alloc::Global;
 use std::marker::Model;
 
-/// What a hall keeps of a condition variable. Only `list` takes memory.
+/// What a hall keeps of a condition variable. Only `list_if` takes memory.
 #[derive(Drop)]
 pub struct CondvarEntry {
     core: CondvarCore<NamedWaker>,
@@ -27,7 +27,7 @@ impl Model for CondvarEntry {
 }
 
 impl CondvarEntry {
-    ghost use Rattle.mea_lock.specs.CondEntries.{IsWaitingUnder, rewoken_under, left_under, forgotten_under, NotifiesFirst, NotifiesEach};
+    ghost use Rattle.mea_lock.specs.CondEntries.{IsWaitingUnder, ListsAt, counted_at, rewoken_under, left_under, forgotten_under, NotifiesFirst, NotifiesEach};
 
     /// A condition variable that has no wait.
     pub fn new(alloc: Global) -> Self
@@ -80,9 +80,9 @@ impl CondvarEntry {
         }
     }
 
-    /// Lists the wait that is named f, and tells its number. Its waker is counted first. On an error nothing has
-    /// changed.
-    pub fn list(&mut self, f: u64, waker: u64, ready: &mut Ready<u64>) -> Result<usize, NoMemory>
+    // Lists the wait that is named f, and tells its number. Its waker is counted first. On an error nothing has
+    // changed.
+    fn list(&mut self, f: u64, waker: u64, ready: &mut Ready<u64>) -> Result<usize, NoMemory>
         ensures ok { IfOk result (λ number. Lists self.old.condvar self.new.condvar number (record { name = f; waker = waker }) × (self.new ≡ record self.old { condvar = self.new.condvar })
             × (ready.new ≡ record ready.old { registered = ready.old.registered + 1 })) }
         ensures err { OnErr result ((self.new ≡ self.old) × (ready.new ≡ ready.old)) }
@@ -95,6 +95,25 @@ impl CondvarEntry {
         Ok(number)
     }
 
+    /// Lists the wait that is named f where this says so, and tells its number. On an error nothing has changed.
+    pub fn list_if(
+        &mut self,
+        listed: bool,
+        f: u64,
+        waker: u64,
+        ready: &mut Ready<u64>,
+    ) -> Result<Option<usize>, NoMemory>
+        ensures ok { IfOk result (λ place. ListsAt self.old self.new place (record { name = f; waker = waker }) × (ready.new ≡ record ready.old { registered = ready.old.registered + counted_at place })) }
+        ensures listed { IfOk result (λ place. is_some place ≡ listed) }
+        ensures err { OnErr result ((self.new ≡ self.old) × (ready.new ≡ ready.old)) }
+    {
+        if !listed {
+            return Ok(None);
+        }
+        let number = self.list(f, waker, ready)?;
+        Ok(Some(number))
+    }
+
     /// Gives the wait that is named f another waker.
     pub fn rewake_under(&mut self, number: Option<usize>, f: u64, waker: u64)
         requires { IsWaitingUnder self.old.condvar number }
@@ -105,20 +124,20 @@ impl CondvarEntry {
         }
     }
 
-    /// Takes out a wait that waits.
+    /// Takes out a wait that waits, if it is listed.
     pub fn unlist_under(&mut self, number: Option<usize>, ready: &mut Ready<u64>)
-        requires waits { IsWaitingUnder self.old.condvar number }
-        requires room { 1 ≤ ready.old.registered }
+        requires waits { IfSome number (λ n. IsSome (waker_under self.old.condvar.waiting n)) }
+        requires room { counted_at number ≤ ready.old.registered }
         ensures entry { self.new ≡ left_under self.old number }
-        ensures counted { ready.new ≡ record ready.old { registered = ready.old.registered - 1 } }
+        ensures counted { ready.new ≡ record ready.old { registered = ready.old.registered - counted_at number } }
     {
         if let Some(number) = number {
             self.unlist(number, ready);
         }
     }
 
-    /// Takes out a listed wait that waits.
-    pub fn unlist(&mut self, number: usize, ready: &mut Ready<u64>)
+    // Takes out a listed wait that waits.
+    fn unlist(&mut self, number: usize, ready: &mut Ready<u64>)
         requires waits { IsSome (waker_under self.old.condvar.waiting number) }
         requires room { 1 ≤ ready.old.registered }
         ensures entry { self.new ≡ record self.old { condvar = record self.old.condvar { waiting = without_wait self.old.condvar.waiting number } } }

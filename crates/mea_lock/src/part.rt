@@ -13,7 +13,7 @@ ghost use Rattle.mea_lock.specs.Actions.{lock_action, FitsMutex};
 ghost use Rattle.mea_lock.specs.Halls.{Acts, ActsQuietly};
 ghost use Rattle.mea_lock.specs.Parts.{guard_seen};
 ghost use Rattle.mea_lock.specs.Lends.{StandsFor};
-ghost use Rattle.mea_lock.specs.Waits.{answer_to, AsksFor};
+ghost use Rattle.mea_lock.specs.Waits.{answer_to, may_go_on, AsksFor};
 
 use crate::access::Access;
 use crate::actions::LockAction;
@@ -322,6 +322,7 @@ impl<C: LockCore> LockPart<C> {
         requires room { registered self.old.hall ≤ ready.old.registered }
         ensures ok { IfOk result (λ asked. PartYields registered self.old number (act_in self.old.hall number (PollUntil f waker until)) (answer_to asked) self.new ready.old ready.new) }
         ensures asked { IfOk result (λ asked. AsksFor asked (was_polled (map.get self.new.hall.futures f))) }
+        ensures lays { IfOk result (λ asked. asked ≡ Asked.Lays → may_go_on until ≡ true) }
         ensures err { OnErr result ((self.new ≡ self.old) × (ready.new ≡ ready.old)) }
     {
         let future = self.futures.at_mut(f);

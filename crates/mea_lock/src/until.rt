@@ -1,5 +1,6 @@
 ghost use Rattle.std.specs.Prelude.{◌≡◌};
 ghost use Rattle.mea_lock_model.specs.Locks.{goes_on};
+ghost use Rattle.mea_lock.specs.Waits.{may_go_on};
 
 use mea_lock_model::Until;
 
@@ -11,6 +12,16 @@ pub fn goes_on(until: Until, value: u64) -> bool
         Until::Held => false,
         Until::Reached(least) => value < least,
         Until::Never => true,
+    }
+}
+
+/// Whether a wait that has the lock goes on waiting at some value.
+pub fn may_go_on(until: Until) -> bool
+    ensures { result ≡ may_go_on until }
+{
+    match until {
+        Until::Held => false,
+        Until::Reached(_) | Until::Never => true,
     }
 }
 

@@ -1,4 +1,4 @@
-ghost use Rattle.std.specs.Prelude.{◌≡◌, true, false, Some, None};
+ghost use Rattle.std.specs.Prelude.{◌≡◌, true, false, None};
 
 /// What a hall keeps of a wait on a condition variable.
 #[derive(Clone, Copy)]
@@ -14,12 +14,12 @@ pub struct WaitEntry {
 }
 
 impl WaitEntry {
-    /// It is listed under a number.
-    pub fn list(&mut self, number: usize)
-        ensures { self.new ≡ record self.old { polled = true; number = Some number; alone = false } }
+    /// It gave the lock up, and waits under the number of its place.
+    pub fn list(&mut self, place: Option<usize>)
+        ensures { self.new ≡ record self.old { polled = true; number = place; alone = false } }
     {
         self.polled = true;
-        self.number = Some(number);
+        self.number = place;
         self.alone = false;
     }
 

@@ -13,7 +13,7 @@ ghost use Rattle.mea_lock.specs.Lends.{ListsAs};
 
 use crate::condvar_entry::CondvarEntry;
 use crate::part::LockPart;
-use crate::until::Asked;
+use crate::until::{Asked, may_go_on};
 use crate::wait_entry::WaitEntry;
 use mea_base::Ready;
 use mea_by_name::{ByName, NamedWaker};
@@ -213,8 +213,8 @@ impl WaitPart {
         Ok(answer)
     }
 
-    // Polls a wait. Its place in the list is taken first, and given up again where it asks for the lock or is over.
-    // On an error nothing has changed.
+    // Polls a wait. Where it may go on waiting its place in the list is taken first, and given up again where it asks for the
+    // lock or is over. On an error nothing has changed.
     fn poll(
         &mut self,
         mutexes: &mut Mutexes,
@@ -240,11 +240,12 @@ impl WaitPart {
             self.next = number as u128 + 1;
             return Ok(Reply(Word::Pending));
         }
-        let Ok(place) = entry.list(f, waker, ready) else {
+        let until = until_of(wait);
+        let Ok(place) = entry.list_if(may_go_on(until), f, waker, ready) else {
             return Err(Stop::NoMemory);
         };
-        let Ok(asked) = mutexes.poll_until(number, f, waker, until_of(wait), ready) else {
-            entry.unlist(place, ready);
+        let Ok(asked) = mutexes.poll_until(number, f, waker, until, ready) else {
+            entry.unlist_under(place, ready);
             return Err(Stop::NoMemory);
         };
         entry.forget_under(wait.number);
@@ -255,12 +256,12 @@ impl WaitPart {
                 Ok(Reply(Word::Pending))
             }
             Asked::Asks => {
-                entry.unlist(place, ready);
+                entry.unlist_under(place, ready);
                 wait.ask();
                 Ok(Reply(Word::Pending))
             }
             Asked::Ready => {
-                entry.unlist(place, ready);
+                entry.unlist_under(place, ready);
                 entry.finish();
                 let _ = self.waits.remove(f);
                 Ok(Reply(Word::Ready))

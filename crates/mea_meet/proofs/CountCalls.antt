@@ -116,6 +116,9 @@ module _ {old : Part Counts} {i : ℕ} (s : Site old i) where
   pub untaken_wait : (f : ℕ) → get s.ws f ≡ None → (ws' : Names WaitEntry) → ws' ≡ remove s.ws f → AreKeptCounts s.ps s.ss s.hs ws' s.next × (part_of s.ps s.ss s.hs ws' s.next ≡ old)
   untaken_wait f none ws' gone = untold s.ps s.ss s.hs ws' refl refl refl (gone ∙ gone_none s.ws f none)
 
+  pub untaken_holder : (k : ℕ) → get s.hs k ≡ None → (hs' : Names HolderEntry) → hs' ≡ remove s.hs k → AreKeptCounts s.ps s.ss hs' s.ws s.next × (part_of s.ps s.ss hs' s.ws s.next ≡ old)
+  untaken_holder k none hs' gone = untold s.ps s.ss hs' s.ws refl refl (gone ∙ gone_none s.hs k none) refl
+
   pub untaken_sender : (k : ℕ) → get s.ss k ≡ None → (ss' : Names ℕ) → ss' ≡ remove s.ss k → AreKeptCounts s.ps ss' s.hs s.ws s.next × (part_of s.ps ss' s.hs s.ws s.next ≡ old)
   untaken_sender k none ss' gone = untold s.ps ss' s.hs s.ws refl (gone ∙ gone_none s.ss k none) refl refl
 

@@ -142,9 +142,6 @@ module _ {old : Part Counts} {i : ℕ} (s : Site old i) where
   new_sender = no_sender here s.next i s.kept.valid s.later
 
   -- ---- what is there
-  pub holder_there : (k : ℕ) → is_holder old.hall k ≡ true → IsSome (get s.hs k)
-  holder_there k is = seen-some_back holder_seen s.hs k (in_view (λ h. is_holder h k ≡ true) is)
-
   pub point_there : (o : ℕ) → IsSome (get old.hall.points o) → IsSome (get s.ps o)
   point_there o some = seen-some_back point_seen s.ps o (in_view (λ h. IsSome (get h.points o)) some)
 

@@ -3,7 +3,7 @@ ghost use Rattle.mea_meet_core.specs.Barrier.{is_open};
 
 use mea_base::{NoMemory, Poll, Ready};
 use mea_by_name::NamedWaker;
-use mea_family::{Reply, Word};
+use mea_family::{Answer, Reply, Word};
 use mea_meet_core::{BarrierCore, BarrierWait, BarrierWaitResult};
 
 /// What a hall keeps of a barrier.

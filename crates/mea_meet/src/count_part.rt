@@ -22,7 +22,7 @@ use crate::point_entry::PointEntry;
 use crate::wait_entry::WaitEntry;
 use mea_base::{NoMemory, Poll, Ready};
 use mea_by_name::ByName;
-use mea_family::{Form, Reply, Stop, Word, one_if, overflow_if, unknown_unless, yes_if};
+use mea_family::{Answer, Form, Reply, Stop, Word, one_if, overflow_if, unknown_unless, yes_if};
 use std::alloc::Global;
 use std::marker::Model;
 
@@ -390,24 +390,28 @@ impl<C: CountCore> CountPart<C> {
         if let Some(stop) = self.cause_of_end(k) {
             return Err(stop);
         }
-        Ok(self.leave(number, k, ready))
+        let _ = self.leave(number, k, ready);
+        Ok(Reply(Word::Done))
     }
 
-    // Ends a holder that is there, and that no future borrows. It takes no memory.
-    fn leave(&mut self, number: u64, k: u64, ready: &mut Ready<u64>) -> Reply
+    // Ends a holder that no future borrows, and tells whether it was there. It takes no memory.
+    fn leave(&mut self, number: u64, k: u64, ready: &mut Ready<u64>) -> bool
         requires next { self.old.next ≤ number }
-        requires there { is_holder self.old.hall k ≡ true }
         requires free { (f : ℕ) (y : Wait) → map.get self.old.hall.waits f ≡ Some y → borrows y.awaits k ≡ false }
         requires room { registered self.old.hall ≤ ready.old.registered }
-        ensures { PartYields registered self.old number (leave_by self.old.hall k) result self.new ready.old ready.new }
+        ensures there { result ≡ is_holder self.old.hall k }
+        ensures left { result ≡ true → PartYields registered self.old number (leave_by self.old.hall k) Answer.Done self.new ready.old ready.new }
+        ensures same { result ≡ false → (self.new ≡ self.old) × (ready.new ≡ ready.old) }
     {
-        let holder = self.holders.remove(k);
+        let Some(holder) = self.holders.take(k) else {
+            return false;
+        };
         let entry = self.points.at_mut(holder.point);
         entry.part(holder.counted, ready);
         let over = entry.finish(ready);
         self.points.remove_if(holder.point, over);
         self.next = number as u128 + 1;
-        Reply(Word::Done)
+        true
     }
 
     // Polls a future, which is gone where it is ready. On an error nothing has changed.
@@ -467,11 +471,10 @@ impl<C: CountCore> CountPart<C> {
         requires room { registered self.old.hall ≤ ready.old.registered }
         ensures { CountActs self.old number (EndEither x) result self.new ready.old ready.new }
     {
-        if self.is_holder(x) {
-            Ok(self.leave(number, x, ready))
-        } else {
-            self.end_wait(number, x, ready)
+        if self.leave(number, x, ready) {
+            return Ok(Reply(Word::Done));
         }
+        self.end_wait(number, x, ready)
     }
 
     // Makes a further sender. On an error nothing has changed.

@@ -159,8 +159,8 @@ impl Family<MeetModel> for MeetFamily {
     ) -> Result<Reply, Stop> {
         validity_is_kept();
         wakes_are_of_the_registered();
-        let answer = self.kinds.act(number, meaning_of(event), ready)?;
+        let reply = self.kinds.act(number, meaning_of(event), ready)?;
         self.next = number as u128 + 1;
-        Ok(answer)
+        Ok(reply)
     }
 }

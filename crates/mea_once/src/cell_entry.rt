@@ -1,4 +1,5 @@
 ghost use Rattle.std.specs.Prelude.{ℕ, ◌≡◌, ◌+◌, ◌-◌, ◌<◌, ◌≤◌, ◌^◌, ◌++◌, [], nat_lt, length, map, cond, true, false, Some, None, if◌then◌else◌};
+ghost use Rattle.mea_family.specs.declared.answer.Answer.{Answer};
 ghost use Rattle.mea_sem_core.specs.Core.{held_of};
 ghost use Rattle.mea_once_model.specs.Cells.{init_of, is_alone, settled, settle, end, value_after, reply_to};
 ghost use Rattle.mea_once.specs.Cores.{IsSoundCell, TurnFits, TurnIsQuiet};

@@ -1,4 +1,5 @@
 ghost use Rattle.std.specs.Prelude.{◌≡◌, cond, is_some, if◌then◌else◌};
+ghost use Rattle.mea_family.specs.declared.answer.Answer.{Answer};
 ghost use Rattle.mea_family.specs.Play.{content};
 ghost use Rattle.mea_once_model.specs.Cells.{is_alone, can_settle, found_full, has_filled, settled, init_of};
 ghost use Rattle.mea_once.specs.Parts.{is_wait};

@@ -1,5 +1,6 @@
 ghost use Rattle.std.specs.Prelude.{ℕ, ◌≡◌, ◌+◌, ◌-◌, ◌<◌, ◌≤◌, ◌^◌, ◌++◌, [], Bool, true, false, cond, length, nat_lt, nat_eq, Some, None, IsSome, is_some, OnErr, IfOk, IfSome, Ok};
 ghost use Rattle.std.specs.FinMap.{get, insert, remove, empty};
+ghost use Rattle.mea_family.specs.declared.answer.Answer.{Answer};
 ghost use Rattle.mea_by_name.specs.ByName.{Names};
 ghost use Rattle.mea_once_core.specs.Keyed.{PollsKey, MayPollKey};
 ghost use Rattle.mea_once_model.specs.Tables as tables;
@@ -325,9 +326,10 @@ impl<C: TableCore> TableEntry<C> {
         let named = NamedWaker { name: f, waker };
         let own = self.own_round(future.round);
         if runs(own, f) {
-            if let Some(n) = future.round {
-                self.rewake(n, named);
-            }
+            let Some(n) = future.round else {
+                return Ok(PENDING);
+            };
+            self.rewake(n, named);
             return Ok(PENDING);
         }
         let Ok(()) = ready.register() else {

@@ -1,1 +1,3 @@
+pub mod Kept
+pub mod KeptLends
 pub mod Polls

@@ -1,4 +1,4 @@
-ghost use Rattle.std.specs.Prelude.{◌≡◌, ◌-◌, ◌<◌, length, true, false, Some, IfErr};
+ghost use Rattle.std.specs.Prelude.{◌≡◌, ◌-◌, ◌<◌, length, true, false, Some, IfSome, IfErr};
 ghost use Rattle.mea_chan_core.specs.Bounded.{send_answer, after_send, recv_answer, after_recv, without_sender, without_receiver, PollsRecv, PollsSend, EndsSend};
 ghost use Rattle.mea_chan_core.specs.Errors.{unsent};
 ghost use Rattle.mea_link.specs.Back.{ComesBack};
@@ -10,6 +10,7 @@ use mea_base::{NoMemory, Poll, Wake};
 use mea_chan_core::{BoundedCore, SendWait};
 use mea_wait::{End, HandleFault, Holds, Polled, Unpolled, Waits, hand_out};
 use std::alloc::Global;
+use std::collections::VecDeque;
 use std::marker::{Model, PhantomData};
 use std::sync::{Arc, Mutex, Wait};
 
@@ -135,15 +136,16 @@ fn poll_send<T: Drop, W: Drop>(
     (answer, core.wakes_ready().saturating_sub(before))
 }
 
-// Ends a send, as above. Its value is dropped where it was not sent.
-fn end_send<T: Drop, W: Drop>(core: &mut BoundedCore<T, W>, send: SendWait<T>) -> usize
+// Ends a send, as above. Its value is handed out where it was not sent, to be dropped outside the lock.
+fn end_send<T: Drop, W: Drop>(core: &mut BoundedCore<T, W>, send: SendWait<T>) -> (Option<T>, usize)
+    ensures value { result.0 ≡ send.value }
     ensures allowed { Belongs core.old.waiting send.acquire → EndsSend core.old send.acquire core.new }
     ensures refused { ¬ Belongs core.old.waiting send.acquire → core.new ≡ core.old }
-    ensures made { result ≡ length core.new.wakes - length core.old.wakes }
+    ensures made { result.1 ≡ length core.new.wakes - length core.old.wakes }
 {
     let before = core.wakes_ready();
-    drop(core.end_send_checked(send));
-    core.wakes_ready().saturating_sub(before)
+    let value = core.end_send_checked(send);
+    (value, core.wakes_ready().saturating_sub(before))
 }
 
 // A sender ends, as above.
@@ -157,15 +159,16 @@ fn end_sender<T: Drop, W: Drop>(core: &mut BoundedCore<T, W>) -> usize
     core.wakes_ready().saturating_sub(before)
 }
 
-// The receiver ends, as above.
-fn end_receiver<T: Drop, W: Drop>(core: &mut BoundedCore<T, W>) -> usize
+// The receiver ends, as above. What was queued is handed out, to be dropped outside the lock.
+fn end_receiver<T: Drop, W: Drop>(core: &mut BoundedCore<T, W>) -> (Option<VecDeque<T>>, usize)
     ensures allowed { core.old.ended ≡ false → core.new ≡ without_receiver core.old }
     ensures ended { core.old.ended ≡ true → core.new ≡ core.old }
-    ensures made { result ≡ length core.new.wakes - length core.old.wakes }
+    ensures queued { IfSome result.0 (λ queued. queued.items ≡ core.old.queued) }
+    ensures made { result.1 ≡ length core.new.wakes - length core.old.wakes }
 {
     let before = core.wakes_ready();
-    core.end_receiver_checked();
-    core.wakes_ready().saturating_sub(before)
+    let queued = core.end_receiver_checked();
+    (queued, core.wakes_ready().saturating_sub(before))
 }
 
 impl<T: Drop, W: Wake> Shared<T, W> {
@@ -176,11 +179,9 @@ impl<T: Drop, W: Wake> Shared<T, W> {
 
     // Ends a send.
     fn abandon<R: Wait>(&self, rt: &R, send: SendWait<T>) {
-        let made = {
-            let mut core = self.core.lock(rt);
-            end_send(&mut *core, send)
-        };
+        let (value, made) = end_send(&mut *self.core.lock(rt), send);
         self.wake(rt, made);
+        drop(value);
     }
 }
 
@@ -242,8 +243,9 @@ impl<T: Drop, W: Wake> End for BoundedSender<T, W> {
 impl<T: Drop, W: Wake> End for BoundedReceiver<T, W> {
     fn end<R: Wait>(self, rt: &R) {
         let BoundedReceiver { shared } = self;
-        let made = end_receiver(&mut *shared.core.lock(rt));
+        let (queued, made) = end_receiver(&mut *shared.core.lock(rt));
         shared.wake(rt, made);
+        drop(queued);
     }
 }
 

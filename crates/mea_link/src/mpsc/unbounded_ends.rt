@@ -127,7 +127,9 @@ impl<T: Drop, W: Wake> End for UnboundedSender<T, W> {
 impl<T: Drop, W: Wake> End for UnboundedReceiver<T, W> {
     fn end<R: Wait>(self, rt: &R) {
         let UnboundedReceiver { shared } = self;
-        shared.core.lock(rt).end_receiver_checked();
+        let queued = shared.core.lock(rt).end_receiver_checked();
+        // Dropped outside the lock, which a message's own drop may take.
+        drop(queued);
     }
 }
 

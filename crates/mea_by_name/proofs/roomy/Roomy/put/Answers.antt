@@ -13,16 +13,13 @@ returns-then-may_stand-clause-things g c =
     put_beside c.self.inside.name c.self.inside.one c.self.inside.map.entries c.args.name c.args.x (sym c.may_stand.ensures ∙ c.if-may_stand.true)
     ∙ ap (λ (m : _). insert m.things c.args.name c.args.x) c.self.view_is
 
-pub invariant_of-self-in-Ok : goal.invariant_of-self-in-Ok
-invariant_of-self-in-Ok g c =
+pub invariant_of-self-2 : goal.invariant_of-self-2
+invariant_of-self-2 g c =
     let other = not_beside c.self.inside.name c.self.inside.one c.self.inside.map.entries c.args.name (sym c.may_stand.ensures ∙ c.if-may_stand.false) in
-    stays_apart c.self.inside.name c.self.inside.one c.self.inside.map.entries c.insert.new.self.entries c.args.name _ other c.in-Ok.ensures.updates.0 c.self.invariant
+    stays_apart c.self.inside.name c.self.inside.one c.self.inside.map.entries c.put_in.new.map.entries c.args.name _ other c.in-Ok.ensures.changes c.self.invariant
 
-pub returns-in-Ok-clause-things : goal.returns-in-Ok-clause-things
-returns-in-Ok-clause-things g c =
+pub returns-clause-things : goal.returns-clause-things
+returns-clause-things g c =
     let other = not_beside c.self.inside.name c.self.inside.one c.self.inside.map.entries c.args.name (sym c.may_stand.ensures ∙ c.if-may_stand.false) in
-    other_put c.self.inside.name c.self.inside.one c.self.inside.map.entries c.insert.new.self.entries c.args.name c.args.x other c.in-Ok.ensures.updates.0
+    other_put c.self.inside.name c.self.inside.one c.self.inside.map.entries c.put_in.new.map.entries c.args.name c.args.x other c.in-Ok.ensures.changes
     ∙ ap (λ (m : _). insert m.things c.args.name c.args.x) c.self.view_is
-
-pub returns-clause-err : goal.returns-clause-err
-returns-clause-err g c = ap (λ es. kept (beside c.self.inside.name c.self.inside.one es)) c.in-Err.ensures.err ∙ ap (λ (m : _). m.things) c.self.view_is

@@ -15,12 +15,12 @@ returns-then-stands-clause-things g c =
     ∙ ap (λ (m : _). remove m.things c.args.name) c.self.view_is
 
 pub invariant_of-self-else-stands : goal.invariant_of-self-else-stands
-invariant_of-self-else-stands g c = stays_apart c.self.inside.name c.self.inside.one c.self.inside.map.entries c.remove.new.self.entries c.args.name _ (sym c.stands.ensures ∙ c.if-stands.false) c.remove.ensures.updates.0 c.self.invariant
+invariant_of-self-else-stands g c = stays_apart c.self.inside.name c.self.inside.one c.self.inside.map.entries c.take_from.new.map.entries c.args.name _ (sym c.stands.ensures ∙ c.if-stands.false) c.take_from.ensures.changes c.self.invariant
 
 pub returns-else-stands-clause-value : goal.returns-else-stands-clause-value
-returns-else-stands-clause-value g c = c.remove.ensures.value ∙ sym (other_at c.self.inside.name c.self.inside.one c.self.inside.map.entries c.args.name (sym c.stands.ensures ∙ c.if-stands.false)) ∙ ap (λ (m : _). get m.things c.args.name) c.self.view_is
+returns-else-stands-clause-value g c = c.take_from.ensures.value ∙ sym (other_at c.self.inside.name c.self.inside.one c.self.inside.map.entries c.args.name (sym c.stands.ensures ∙ c.if-stands.false)) ∙ ap (λ (m : _). get m.things c.args.name) c.self.view_is
 
 pub returns-else-stands-clause-things : goal.returns-else-stands-clause-things
 returns-else-stands-clause-things g c =
-    other_gone c.self.inside.name c.self.inside.one c.self.inside.map.entries c.remove.new.self.entries c.args.name (sym c.stands.ensures ∙ c.if-stands.false) c.remove.ensures.updates.0
+    other_gone c.self.inside.name c.self.inside.one c.self.inside.map.entries c.take_from.new.map.entries c.args.name (sym c.stands.ensures ∙ c.if-stands.false) c.take_from.ensures.changes
     ∙ ap (λ (m : _). remove m.things c.args.name) c.self.view_is

@@ -2,7 +2,7 @@ use Rattle.std.proofs.Common.{refl, ap, ◌∙◌}
 use Rattle.std.specs.FinMap.{insert}
 use Rattle.mea_base.proofs.Maps.{get-there, is_there}
 use Rattle.mea_lock.proofs.PartEvents.{site, condvar_future_there, its_lock, its_kept, its_room, may_have_it}
-use Rattle.mea_lock.proofs.FutureEvents.{condvar_writes, future_may_poll, future_holds, undone, pended_until, asks_polled, until_ready, until_lays}
+use Rattle.mea_lock.proofs.FutureEvents.{condvar_writes, future_may_poll, future_holds, undone, pended_until, asks_polled, until_ready, until_lays, lays_may}
 use Rattle.mea_lock.proofs.part.LockPart.poll_until.Goals as goal
 
 pub at_mut-future-requires : goal.at_mut-future-requires
@@ -75,3 +75,6 @@ returns-in-Ok-Lays-clause-ok g c = let polled = rw c.in-Ok-Lays.field-0-is at c.
 pub returns-in-Ok-Lays-clause-asked : goal.returns-in-Ok-Lays-clause-asked
 returns-in-Ok-Lays-clause-asked g c = let polled = rw c.in-Ok-Lays.field-0-is at c.in-Ok-Lays.ensures.polls in
     (until_lays (site c.self.inside.locks c.self.inside.futures c.self.inside.guards.things c.self.inside.next c.self.view_is c.self.invariant c.requires.next c.ranges.number.fits) c.args.f c.at_mut-future.result.now c.at_mut-entry.result.now c.at_mut-future.ensures.value (rw c.guard-guard.ensures at c.at_mut-entry.ensures.value) c.requires.there c.args.waker c.args.until c.poll_until.new.self c.poll_until.new.future c.args.ready.now c.poll_until.new.ready polled.0 polled.1 polled.2 polled.3 polled.4 polled.5 polled.6 polled.7 polled.8 polled.9 _ c.make_room.ensures.things).0
+
+pub returns-in-Ok-Lays-clause-lays : goal.returns-in-Ok-Lays-clause-lays
+returns-in-Ok-Lays-clause-lays g c = λ _. lays_may c.args.until _ (rw c.in-Ok-Lays.field-0-is at c.in-Ok-Lays.ensures.polls).5

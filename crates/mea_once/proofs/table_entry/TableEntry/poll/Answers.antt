@@ -14,8 +14,8 @@ use Rattle.mea_once.proofs.KeyCalls.{rewakes_so, enter_few, may_poll_key, some_f
 use Rattle.mea_once.proofs.KeyAnswers.{one_back, polls_any, own_runs, idle_where, entered_so, undone}
 use Rattle.mea_once.proofs.table_entry.TableEntry.poll.Goals as goal
 
-pub returns-in-Some-clause-steps : goal.returns-in-Some-clause-steps
-returns-in-Some-clause-steps g c = λ s.
+pub returns-then-runs-clause-steps : goal.returns-then-runs-clause-steps
+returns-then-runs-clause-steps g c = λ s.
     let there = its_there g.C.TableCore.is_once c.args.self.now c.args.f c.args.future.now c.args.number s c.in-Some.n c.in-Some.is in
     subst (λ new. SteppedTable g.C.TableCore.is_once c.args.self.now s.fs c.args.number c.args.f c.args.future.now.table (Some c.args.future.now) (λ h. tables.poll g.C.TableCore.is_once h c.args.number c.args.f c.args.waker (key_future_seen c.args.future.now) (table_seen c.args.self.now) c.args.future.now.round) Pending new c.args.ready.now c.args.ready.now)
     (sym (c.rewake.ensures (its_round g.C.TableCore.is_once c.args.self.now c.args.f c.args.future.now c.args.number s c.in-Some.n c.in-Some.is) there))

@@ -1,7 +1,7 @@
 use Rattle.std.proofs.Common.{arith, rules}
 use Rattle.mea_sem_core.proofs.Ones.{ones_no_debt, ones_lacks}
 use Rattle.mea_chan_core.proofs.Senders.{wakes_all}
-use Rattle.mea_chan_core.proofs.bounded.BoundedCore.end_receiver.Goals as goal
+use Rattle.mea_chan_core.proofs.bounded.BoundedCore.close.Goals as goal
 
 pub wake_queue-requires-clause-no_debt : goal.wake_queue-requires-clause-no_debt
 wake_queue-requires-clause-no_debt g c = ones_no_debt c.self.inside.waiting.queue c.self.invariant.waiting.ones
