@@ -1,8 +1,12 @@
 //! Those of the crowd who want the value of a key: of a map, or of a group.
+ghost use Rattle.std.specs.Prelude.{IsSome, IfNone};
+
 use crate::keeps::Keeps;
 use crate::makes::Makes;
 use crate::tasks::{Inits, computing};
 use crate::tickets::{Kind, Ticket};
+use futures::Future;
+use futures::task::{Context, Poll};
 use mea::once::{MapClaim, MapClaiming, MapFilling, OnceMap};
 use mea::singleflight::{Group, GroupClaim, GroupClaiming, GroupFilling};
 use mea_futures::Bell;
@@ -30,8 +34,7 @@ pub(crate) type Maps<'a, R> = Inits<
     MapFilling<'a, u64, u64, Hasher, Bell>,
 >;
 
-/// One that waits for a value which those who come meanwhile share.
-pub(crate) type Flies<'a, R> = Inits<
+type Computing<'a, R> = Inits<
     'a,
     R,
     GroupClaiming<'a, u64, u64, Hasher, Bell>,
@@ -40,6 +43,28 @@ pub(crate) type Flies<'a, R> = Inits<
     u64,
     GroupFilling<'a, u64, u64, Hasher, Bell>,
 >;
+
+/// A task that waits for a value which those who come meanwhile share.
+pub(crate) struct Flies<'a, R: Wait> {
+    computing: Computing<'a, R>,
+}
+
+// Written out: so whoever holds one finds a drop by its name, and does not take the parts of a group apart.
+impl<'a, R: Wait> Drop for Flies<'a, R> {
+    fn drop(self) {
+        let Flies { computing: _ } = self;
+    }
+}
+
+impl<'a, R: Wait> Future for Flies<'a, R> {
+    type Output = ();
+
+    ghost can_poll = { λ f. IfNone f.computing.awaited.claim (IsSome f.computing.awaited.turn.wait) };
+
+    fn poll(&mut self, cx: &mut Context<'_>) -> Poll<()> {
+        self.computing.poll(cx)
+    }
+}
 
 /// Makes those who compute a key of the map, one of three.
 #[derive(Drop)]
@@ -74,7 +99,10 @@ impl<'a, R: Wait + AllocGlobal + Abort> Makes<Flies<'a, R>> for Flying<'a, R> {
             Kind::Flies => {
                 let keeps = self.keeps;
                 let key = ticket.nth % 3;
-                Some(computing(self.rt, keeps.flights.claim(key), key, &keeps.flown))
+                let claiming = keeps.flights.claim(key);
+                Some(Flies {
+                    computing: computing(self.rt, claiming, key, &keeps.flown),
+                })
             }
             _ => None,
         }
