@@ -15,8 +15,6 @@ mod keyed;
 #[cfg(test)]
 mod locks;
 #[cfg(test)]
-mod makes;
-#[cfg(test)]
 mod meets;
 #[cfg(test)]
 mod oneshots;
@@ -26,5 +24,3 @@ mod patience;
 mod spawns;
 #[cfg(test)]
 mod tasks;
-#[cfg(test)]
-mod tickets;
