@@ -21,7 +21,7 @@ use Rattle.mea_sem.specs.Kept.{IsKeptEntry, things}
 use Rattle.mea_sem.proofs.Lives.{live-seen}
 use Rattle.mea_sem.proofs.Seen.{seen_at}
 use Rattle.mea_sem.proofs.Standing.{Semaphores}
-use Rattle.mea_sem.proofs.Meets.{registered_in, semaphores_in, store_in, hall_in, IsKeptIn}
+use Rattle.mea_sem.proofs.Meets.{registered_in, semaphores_in, futures_in, permits_in, store_in, hall_in, IsKeptIn}
 use Rattle.mea_base.proofs.Tests.{on_false, on_first_false}
 
 -- ---- one list before another
@@ -178,7 +178,7 @@ module _ (a : Inside) (k : IsKeptIn a) (s : ℕ) (e : SemaphoreEntry) (there : a
 -- ---- its account takes its place
 pub moved : (a : Inside) (s : ℕ) (e : SemaphoreEntry) (ss' : Semaphores) (xs' : List EndedEntry) → IsKeptIn a → at a.kept.semaphores.entries s ≡ Some e → IsOver e
     → ChangesAt a.kept.semaphores.entries ss' s None → xs' ≡ a.kept.ended.items ++ account_of e s ∷ []
-    → store_of (with_ended ss' xs') a.kept.futures.entries a.kept.permits.entries ≡ store_in a
+    → store_of (with_ended ss' xs') (futures_in a) (permits_in a) ≡ store_in a
 moved a s e ss' xs' k there over gone pushed =
     let same = named-same (λ q x. x) (λ q x. x) (with_ended ss' xs') (semaphores_in a) (λ q. ap (option_map (λ x. x)) (at_each q)) in
     λ j. record { semaphores = same j; futures = (store_in a).futures; permits = (store_in a).permits }

@@ -1,6 +1,7 @@
 pub mod ClosedCores
 pub mod Cores
 pub mod Names
+pub mod Things
 pub mod Stages
 pub mod Replaced
 pub mod Changes

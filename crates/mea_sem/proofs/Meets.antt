@@ -1,6 +1,7 @@
 -- a hall as a method meets it, and as the method leaves it
 use Rattle.std.proofs.Common.{◌≡◌, ℕ, ◌+◌, ◌^◌, ◌<◌, ◌≤◌, ◌++◌, List, [], subst, sym, ap, ◌∙◌, append-nil, Some}
 use Rattle.mea_family.specs.declared.answer.Answer.{Answer}
+use Rattle.std.specs.FinMap.{entries}
 use Rattle.mea_base.specs.Named.{at}
 use Rattle.mea_events.specs.declared.sem_event.SemEvent.{SemEvent}
 use Rattle.mea_sem_model.specs.Hall.{Hall}
@@ -19,8 +20,16 @@ use Rattle.mea_sem.proofs.Keeping.{Plays}
 abbrev pub semaphores_in : Inside → List (ℕ × SemaphoreEntry)
 semaphores_in a = with_ended a.kept.semaphores.entries a.kept.ended.items
 
+-- its futures
+abbrev pub futures_in : Inside → List (ℕ × FutureEntry)
+futures_in a = entries a.kept.futures
+
+-- its permits
+abbrev pub permits_in : Inside → List (ℕ × PermitEntry)
+permits_in a = entries a.kept.permits
+
 abbrev pub store_in : Inside → Store
-store_in a = store_of (semaphores_in a) a.kept.futures.entries a.kept.permits.entries
+store_in a = store_of (semaphores_in a) (futures_in a) (permits_in a)
 
 abbrev pub hall_in : Inside → Hall
 hall_in a = hall_of (store_in a) a.kept.next
@@ -50,13 +59,13 @@ pub record MeetsSemaphore (a : Inside) (v : Play) (i s : ℕ) (e : SemaphoreEntr
 -- and its future f, with the semaphore of that
 pub record MeetsFuture (a : Inside) (v : Play) (i f : ℕ) (x : FutureEntry) (e : SemaphoreEntry) : Type 0 where
   pub meets : Meets a v i
-  pub is : at a.kept.futures.entries f ≡ Some x
+  pub is : at (futures_in a) f ≡ Some x
   pub there : at (semaphores_in a) x.semaphore ≡ Some e
 
 -- and its permit p, with the semaphore of that
 pub record MeetsPermit (a : Inside) (v : Play) (i p : ℕ) (x : PermitEntry) (e : SemaphoreEntry) : Type 0 where
   pub meets : Meets a v i
-  pub is : at a.kept.permits.entries p ≡ Some x
+  pub is : at (permits_in a) p ≡ Some x
   pub there : at (semaphores_in a) x.semaphore ≡ Some e
 
 -- event number i had this outcome: what is kept now, and what the contract says
@@ -79,20 +88,25 @@ pub seen_store : (a : Inside) {v : Play} {st : Store} → seen_in a ≡ v → st
 seen_store a seen same = (λ j. record { hall = hall_of (same j) a.kept.next; wakes = a.list.wakers; next = a.kept.next }) ∙ seen
 
 -- an insertion that failed left what was there
-pub kept_as_futures : (a : Inside) {fs : List (ℕ × FutureEntry)} → IsKeptIn a → fs ≡ a.kept.futures.entries
-    → AreKeptSemaphores (store_of (semaphores_in a) fs a.kept.permits.entries) (registered_in a) a.list.registered a.kept.next
+pub kept_as_futures : (a : Inside) {fs : List (ℕ × FutureEntry)} → IsKeptIn a → fs ≡ futures_in a
+    → AreKeptSemaphores (store_of (semaphores_in a) fs (permits_in a)) (registered_in a) a.list.registered a.kept.next
 kept_as_futures a k same = subst
-    (λ (fs : List (ℕ × FutureEntry)). AreKeptSemaphores (store_of (semaphores_in a) fs a.kept.permits.entries) (registered_in a) a.list.registered a.kept.next) (sym same) k
+    (λ (fs : List (ℕ × FutureEntry)). AreKeptSemaphores (store_of (semaphores_in a) fs (permits_in a)) (registered_in a) a.list.registered a.kept.next) (sym same) k
 
-pub seen_as_futures : (a : Inside) {v : Play} {fs : List (ℕ × FutureEntry)} → seen_in a ≡ v → fs ≡ a.kept.futures.entries
-    → record { hall = hall_of (store_of (semaphores_in a) fs a.kept.permits.entries) a.kept.next; wakes = a.list.wakers; next = a.kept.next } ≡ v
+pub seen_as_futures : (a : Inside) {v : Play} {fs : List (ℕ × FutureEntry)} → seen_in a ≡ v → fs ≡ futures_in a
+    → record { hall = hall_of (store_of (semaphores_in a) fs (permits_in a)) a.kept.next; wakes = a.list.wakers; next = a.kept.next } ≡ v
 seen_as_futures a seen same =
-    (λ j. record { hall = hall_of (store_of (semaphores_in a) (same j) a.kept.permits.entries) a.kept.next; wakes = a.list.wakers; next = a.kept.next }) ∙ seen
+    (λ j. record { hall = hall_of (store_of (semaphores_in a) (same j) (permits_in a)) a.kept.next; wakes = a.list.wakers; next = a.kept.next }) ∙ seen
 
-pub kept_as_permits : (a : Inside) {ps : List (ℕ × PermitEntry)} → IsKeptIn a → ps ≡ a.kept.permits.entries
-    → AreKeptSemaphores (store_of (semaphores_in a) a.kept.futures.entries ps) (registered_in a) a.list.registered a.kept.next
+pub kept_as_permits : (a : Inside) {ps : List (ℕ × PermitEntry)} → IsKeptIn a → ps ≡ permits_in a
+    → AreKeptSemaphores (store_of (semaphores_in a) (futures_in a) ps) (registered_in a) a.list.registered a.kept.next
 kept_as_permits a k same = subst
-    (λ (ps : List (ℕ × PermitEntry)). AreKeptSemaphores (store_of (semaphores_in a) a.kept.futures.entries ps) (registered_in a) a.list.registered a.kept.next) (sym same) k
+    (λ (ps : List (ℕ × PermitEntry)). AreKeptSemaphores (store_of (semaphores_in a) (futures_in a) ps) (registered_in a) a.list.registered a.kept.next) (sym same) k
+
+pub seen_as_permits : (a : Inside) {v : Play} {ps : List (ℕ × PermitEntry)} → seen_in a ≡ v → ps ≡ permits_in a
+    → record { hall = hall_of (store_of (semaphores_in a) (futures_in a) ps) a.kept.next; wakes = a.list.wakers; next = a.kept.next } ≡ v
+seen_as_permits a seen same =
+    (λ j. record { hall = hall_of (store_of (semaphores_in a) (futures_in a) (same j)) a.kept.next; wakes = a.list.wakers; next = a.kept.next }) ∙ seen
 
 module _ {a : Inside} {v : Play} {i : ℕ} (m : Meets a v i) where
   pub later : a.kept.next ≤ i

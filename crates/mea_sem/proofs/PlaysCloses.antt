@@ -1,6 +1,7 @@
 -- a close: all who wait are cut, and then what they were paid is poured
-use Rattle.std.proofs.Common.{◌≡◌, ℕ, ◌+◌, ◌^◌, ◌<◌, ◌≤◌, ◌==◌, true, false, cond, List, [], ◌∷◌, length, refl, ap, sym, ◌∙◌, arith, Some, None, if◌then◌else◌}
+use Rattle.std.proofs.Common.{◌≡◌, ℕ, ◌+◌, ◌^◌, ◌<◌, ◌≤◌, ◌==◌, true, false, cond, [], ◌∷◌, length, refl, ap, sym, ◌∙◌, arith, Some, None, if◌then◌else◌}
 use Rattle.std.specs.FinMap.{get}
+use Rattle.std.proofs.lemmas.List.{nil_from_length}
 use Rattle.mea_base.specs.Queue.{granted_in}
 use Rattle.mea_family.specs.declared.answer.Answer.TheVariants as answers
 use Rattle.mea_events.specs.declared.sem_event.SemEvent.TheVariants as events
@@ -33,13 +34,9 @@ wakers_waiting ((cores.Owes, l) ∷ q) = wakers_waiting q
 none_poured : (q : Queue) (n : ℕ) → length (cores.wakers_of (granted_in (cores.only_debts q) n)) ≡ 0
 none_poured q n = omega (arith, wakers_poured (cores.only_debts q) n, wakers_only q)
 
-no_length : {X : Type 0} (xs : List X) → length xs ≡ 0 → xs ≡ []
-no_length [] h = refl
-no_length (x ∷ xs) h = absurd (omega (arith, h))
-
 -- a pour into debts alone makes no waker ready
 pub none_woken : (q : Queue) (n : ℕ) → cores.wakers_of (granted_in (cores.only_debts q) n) ≡ []
-none_woken q n = no_length (cores.wakers_of (granted_in (cores.only_debts q) n)) (none_poured q n)
+none_woken q n = nil_from_length (cores.wakers_of (granted_in (cores.only_debts q) n)) (none_poured q n)
 
 -- ---- the event
 module _ (st st' : Store) (w w' sp' sp next i s : ℕ) (e : SemaphoreEntry) (k : AreKeptSemaphores st w sp next) (less : next ≤ i) (low : i < 2 ^ 64)

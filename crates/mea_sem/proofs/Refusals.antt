@@ -21,7 +21,7 @@ use Rattle.mea_sem.specs.Store.{permit_of, semaphore_of, future_of}
 use Rattle.mea_sem.proofs.Lives.{live-seen}
 use Rattle.mea_sem.proofs.Lends.{stands_for}
 use Rattle.mea_sem.proofs.Endings.{missing}
-use Rattle.mea_sem.proofs.Meets.{registered_in, semaphores_in, store_in, seen_in, IsKeptIn}
+use Rattle.mea_sem.proofs.Meets.{registered_in, semaphores_in, futures_in, permits_in, store_in, seen_in, IsKeptIn}
 
 module _ (a : Inside) {v : Play} (seen : seen_in a ≡ v) (k : ℕ) where
   named-at : (o : Option SemaphoreEntry) → at (semaphores_in a) k ≡ o
@@ -54,49 +54,49 @@ module _ (a : Inside) {v : Play} (seen : seen_in a ≡ v) (k : ℕ) where
       → cond (is_named v.hall k) o (Some stops.Unknown) ≡ o
   known_named o e is named = ap (λ b. cond b o (Some stops.Unknown)) (named-some e is ∙ named)
 
-  pub future-at : is_future v.hall k ≡ is_some (at a.kept.futures.entries k)
+  pub future-at : is_future v.hall k ≡ is_some (at (futures_in a) k)
   future-at = ap (λ (p : Play). is_future p.hall k) (sym seen)
       ∙ ap is_some (get-seen (λ f x. future_of (store_in a).semaphores x) (store_in a).futures k
-      ∙ ap (option_map (future_of (store_in a).semaphores)) (kept-at a.kept.futures.entries k))
-      ∙ is_some-map (future_of (store_in a).semaphores) (at a.kept.futures.entries k)
+      ∙ ap (option_map (future_of (store_in a).semaphores)) (kept-at (futures_in a) k))
+      ∙ is_some-map (future_of (store_in a).semaphores) (at (futures_in a) k)
 
-  pub permit-at : get v.hall.permits k ≡ option_map permit_of (at a.kept.permits.entries k)
-  permit-at = ap (λ (p : Play). get p.hall.permits k) (sym seen) ∙ get-named (λ p x. permit_of x) a.kept.permits.entries k
+  pub permit-at : get v.hall.permits k ≡ option_map permit_of (at (permits_in a) k)
+  permit-at = ap (λ (p : Play). get p.hall.permits k) (sym seen) ∙ get-named (λ p x. permit_of x) (permits_in a) k
 
-  pub is_permit-at : is_permit v.hall k ≡ is_some (at a.kept.permits.entries k)
-  is_permit-at = ap is_some permit-at ∙ is_some-map permit_of (at a.kept.permits.entries k)
+  pub is_permit-at : is_permit v.hall k ≡ is_some (at (permits_in a) k)
+  is_permit-at = ap is_some permit-at ∙ is_some-map permit_of (at (permits_in a) k)
 
   -- a future or a permit is known where its entry is
-  pub future_there : (x : FutureEntry) → at a.kept.futures.entries k ≡ Some x → is_future v.hall k ≡ true
+  pub future_there : (x : FutureEntry) → at (futures_in a) k ≡ Some x → is_future v.hall k ≡ true
   future_there x is = future-at ∙ ap is_some is
 
-  pub future_missing : at a.kept.futures.entries k ≡ None → get v.hall.futures k ≡ None
+  pub future_missing : at (futures_in a) k ≡ None → get v.hall.futures k ≡ None
   future_missing is = by_case (get v.hall.futures k) (future-at ∙ ap is_some is)
     where
       by_case : {X : Type 0} (o : Option X) → is_some o ≡ false → o ≡ None
       by_case None h = refl
       by_case (Some x) h = absurd (cc)
 
-  pub future_known : (x : FutureEntry) → at a.kept.futures.entries k ≡ Some x → unknown_unless (is_future v.hall k) ≡ None
+  pub future_known : (x : FutureEntry) → at (futures_in a) k ≡ Some x → unknown_unless (is_future v.hall k) ≡ None
   future_known x is = ap unknown_unless (future_there x is)
 
-  pub future_unknown : at a.kept.futures.entries k ≡ None → unknown_unless (is_future v.hall k) ≡ Some stops.Unknown
+  pub future_unknown : at (futures_in a) k ≡ None → unknown_unless (is_future v.hall k) ≡ Some stops.Unknown
   future_unknown is = ap unknown_unless (future-at ∙ ap is_some is)
 
-  pub permit_known : (x : PermitEntry) → at a.kept.permits.entries k ≡ Some x → unknown_unless (is_permit v.hall k) ≡ None
+  pub permit_known : (x : PermitEntry) → at (permits_in a) k ≡ Some x → unknown_unless (is_permit v.hall k) ≡ None
   permit_known x is = ap unknown_unless (is_permit-at ∙ ap is_some is)
 
-  pub permit_unknown : at a.kept.permits.entries k ≡ None → unknown_unless (is_permit v.hall k) ≡ Some stops.Unknown
+  pub permit_unknown : at (permits_in a) k ≡ None → unknown_unless (is_permit v.hall k) ≡ Some stops.Unknown
   permit_unknown is = ap unknown_unless (is_permit-at ∙ ap is_some is)
 
   -- the end of a future, of a permit, and of neither
-  pub end_known : (x : FutureEntry) → at a.kept.futures.entries k ≡ Some x → cause_of v.hall (events.End k) ≡ None
+  pub end_known : (x : FutureEntry) → at (futures_in a) k ≡ Some x → cause_of v.hall (events.End k) ≡ None
   end_known x is = ap (λ b. unknown_unless (if b then true else is_permit v.hall k)) (future_there x is)
 
-  pub end_of_permit_known : get v.hall.futures k ≡ None → (x : PermitEntry) → at a.kept.permits.entries k ≡ Some x → cause_of v.hall (events.End k) ≡ None
+  pub end_of_permit_known : get v.hall.futures k ≡ None → (x : PermitEntry) → at (permits_in a) k ≡ Some x → cause_of v.hall (events.End k) ≡ None
   end_of_permit_known none x is = ap (λ o. unknown_unless (if is_some o then true else is_permit v.hall k)) none ∙ permit_known x is
 
-  pub end_unknown : get v.hall.futures k ≡ None → at a.kept.permits.entries k ≡ None → cause_of v.hall (events.End k) ≡ Some stops.Unknown
+  pub end_unknown : get v.hall.futures k ≡ None → at (permits_in a) k ≡ None → cause_of v.hall (events.End k) ≡ Some stops.Unknown
   end_unknown none is = ap (λ o. unknown_unless (if is_some o then true else is_permit v.hall k)) none ∙ permit_unknown is
 
 -- a refusal of what is unknown tells that, and no want of memory

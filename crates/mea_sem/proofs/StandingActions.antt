@@ -16,7 +16,7 @@ use Rattle.mea_sem.specs.Entries.{ledger_of_entry}
 use Rattle.mea_sem.specs.Play.{Play, TakesNoMemory}
 use Rattle.mea_sem.specs.Store.{Store, store_of}
 use Rattle.mea_sem.proofs.Inside.{Inside}
-use Rattle.mea_sem.proofs.Meets.{registered_in, semaphores_in, store_in, seen_in, MeetsSemaphore, Done}
+use Rattle.mea_sem.proofs.Meets.{registered_in, semaphores_in, futures_in, permits_in, store_in, seen_in, MeetsSemaphore, Done}
 use Rattle.mea_sem.proofs.Refusals.{unknown_missing, refuses_unknown}
 use Rattle.mea_sem.proofs.Standing.{Semaphores}
 use Rattle.mea_sem.proofs.StandingSemaphores.{while_named, once_unnamed, release_known, release_refused, endsem_known, endsem_refused, wakers_few, close_few, as_it_was, done_free, done_closed, done_ledger, done_lacking, done_forget, done_forgetx, done_tried, done_endsem, done_closing, done_release}
@@ -57,7 +57,7 @@ module _ {a : Inside} {v : Play} {i s : ℕ} {e : SemaphoreEntry} (m : MeetsSema
 
   module _ (ss' : Semaphores) (x : SemaphoreEntry) (changes : ChangesAt (semaphores_in a) ss' s (Some x)) where
     abbrev st' : Store
-    st' = store_of ss' a.kept.futures.entries a.kept.permits.entries
+    st' = store_of ss' (futures_in a) (permits_in a)
 
     abbrev Is : Outcome → Answer → ℕ → Waking ℕ → Type 0
     Is o answer woken w = Done v i o answer st' (registered_in a - woken) w.registered w.wakers

@@ -36,25 +36,25 @@ use Rattle.mea_sem.proofs.PlaysReady.{plays_ready, plays_ready_forgetting, futur
 use Rattle.mea_sem.proofs.Refusals.{future_known}
 use Rattle.mea_sem.proofs.Keeping.{Plays}
 use Rattle.mea_sem.proofs.Endings.{missing, no_entry}
-use Rattle.mea_sem.proofs.Meets.{registered_in, semaphores_in, store_in, hall_in, IsKeptIn, MeetsSemaphore, MeetsFuture, Done, its_semaphore, later, to_kept, done, done_quietly}
+use Rattle.mea_sem.proofs.Meets.{registered_in, semaphores_in, futures_in, permits_in, store_in, hall_in, IsKeptIn, MeetsSemaphore, MeetsFuture, Done, its_semaphore, later, to_kept, done, done_quietly}
 use Rattle.mea_sem.proofs.Standing.{Semaphores, Futures, Permits, semaphores_of}
 use Rattle.mea_sem.proofs.PlaysFutures.{plays_acquire}
 use Rattle.mea_sem.proofs.PlaysEnds.{PlaysWith, plays_gone_new, plays_gone_cut}
 use Rattle.mea_sem.proofs.StandingSemaphores.{small_forgotten}
 
 -- ---- what an event without a cause finds
-pub its_home : (a : Inside) (f : ℕ) {x : FutureEntry} → IsKeptIn a → at a.kept.futures.entries f ≡ Some x → IsHome (store_in a) x
-its_home a f {x} k is = k.linked.home f x (found a.kept.futures.entries f x is)
+pub its_home : (a : Inside) (f : ℕ) {x : FutureEntry} → IsKeptIn a → at (futures_in a) f ≡ Some x → IsHome (store_in a) x
+its_home a f {x} k is = k.linked.home f x (found (futures_in a) f x is)
 
-pub semaphore_found : (a : Inside) (f : ℕ) {x : FutureEntry} → IsKeptIn a → at a.kept.futures.entries f ≡ Some x → at (semaphores_in a) x.semaphore ≡ None → ⊥
+pub semaphore_found : (a : Inside) (f : ℕ) {x : FutureEntry} → IsKeptIn a → at (futures_in a) f ≡ Some x → at (semaphores_in a) x.semaphore ≡ None → ⊥
 semaphore_found a f {x} k is none =
     absurd (let there = (its_home a f k is).there in let gone : get
     (store_in a).semaphores x.semaphore ≡ None = kept-at (semaphores_in a) x.semaphore ∙ none in cc)
 
-pub semaphore_living : (a : Inside) (f : ℕ) {x : FutureEntry} → IsKeptIn a → at a.kept.futures.entries f ≡ Some x → at a.kept.semaphores.entries x.semaphore ≡ None → ⊥
+pub semaphore_living : (a : Inside) (f : ℕ) {x : FutureEntry} → IsKeptIn a → at (futures_in a) f ≡ Some x → at a.kept.semaphores.entries x.semaphore ≡ None → ⊥
 semaphore_living a f {x} k is none = elim (missing a x.semaphore none) [
   | inl gone ↦ semaphore_found a f k is gone
-  | inr e ↦ no_entry a k x.semaphore e.0 e.1 e.3 f x (found a.kept.futures.entries f x is) refl
+  | inr e ↦ no_entry a k x.semaphore e.0 e.1 e.3 f x (found (futures_in a) f x is) refl
 ]
 
 -- the permit that a future becomes
@@ -63,7 +63,7 @@ permit_from x = record { semaphore = x.semaphore; size = demand_of x.acquire; pl
 
 module _ {a : Inside} {v : Play} {i f : ℕ} {x : FutureEntry} {e : SemaphoreEntry} (m : MeetsFuture a v i f x e) where
   pub future_there : get (store_in a).futures f ≡ Some x
-  future_there = found a.kept.futures.entries f x m.is
+  future_there = found (futures_in a) f x m.is
 
   pub home_there : get (store_in a).semaphores x.semaphore ≡ Some e
   home_there = found (semaphores_in a) x.semaphore e m.there
@@ -236,17 +236,17 @@ acq_step h i s n false true = refl
 pub acquire_done : {a : Inside} {v : Play} {i s : ℕ} {e : SemaphoreEntry} → MeetsSemaphore a v i s e
     → (ss' : Semaphores) (fs' : Futures) (n : ℕ) (plain forgets : Bool) (e2 : SemaphoreEntry) (x : FutureEntry)
     → cause_of v.hall (events.Acq s n) ≡ None → ChangesAt (semaphores_in a) ss' s (Some e2) → e2 ≡ record e { plain = e.plain + cond plain 1 0; things = e.things + 1 }
-    → ChangesAt a.kept.futures.entries fs' i (Some x) → x ≡ record { semaphore = s; acquire = acquires.New n; plain = plain; forgets = forgets }
-    → Done v i (acquire_of v.hall i s n plain forgets) answers.Made (store_of ss' fs' a.kept.permits.entries) (registered_in a) a.list.registered a.list.wakers
+    → ChangesAt (futures_in a) fs' i (Some x) → x ≡ record { semaphore = s; acquire = acquires.New n; plain = plain; forgets = forgets }
+    → Done v i (acquire_of v.hall i s n plain forgets) answers.Made (store_of ss' fs' (permits_in a)) (registered_in a) a.list.registered a.list.wakers
 acquire_done {a} {v} {i} {s} {e} m ss' fs' n plain forgets e2 x allowed changes is put new =
     let h : Hall = hall_in a in
-    let st' : Store = store_of ss' fs' a.kept.permits.entries in
+    let st' : Store = store_of ss' fs' (permits_in a) in
     let played = acq_step h i s n plain forgets in
     let plays = plays_acquire (store_in a) st' (registered_in a) a.list.registered a.kept.next i s n e m.meets.kept (later m.meets) m.meets.low
     (acq_event s n plain forgets) plain forgets (acq_fits s n plain forgets)
     (acq_cause h s n plain forgets (to_kept m.meets (λ g. cause_of g (events.Acq s n) ≡ None) allowed)) (ap (λ o. o.hall) played)
     (found (semaphores_in a) s e m.there) (semaphores_of (semaphores_in a) ss' s e2 _ changes is)
-    (λ g. kept-changed a.kept.futures.entries fs' i (Some x) put g ∙ ap (λ y. cond (i == g) (Some y) (get (store_in a).futures g)) new) refl in
+    (λ g. kept-changed (futures_in a) fs' i (Some x) put g ∙ ap (λ y. cond (i == g) (Some y) (get (store_in a).futures g)) new) refl in
     subst (λ o. Done v i o answers.Made st' (registered_in a) a.list.registered a.list.wakers) (acq_step v.hall i s n plain forgets)
     (done_quietly m.meets (acq_event s n plain forgets) answers.Made plays (ap (λ o. o.wakes) played) (sym (ap (λ o. o.reply) played)))
 
@@ -320,13 +320,13 @@ readies {a} {v} {i} {f} {x} {e} m w ready = by_acquire x.acquire refl ready
     by_acquire (acquires.Refused d) refused r = absurd r
 
 module _ {a : Inside} {v : Play} {i f : ℕ} {x : FutureEntry} {e : SemaphoreEntry} (m : MeetsFuture a v i f x e) (w : ℕ)
-    (ready : IsReady e.core x.acquire) (ss' : Semaphores) (fs' : Futures) (e2 : SemaphoreEntry) (gone : ChangesAt a.kept.futures.entries fs' f None)
+    (ready : IsReady e.core x.acquire) (ss' : Semaphores) (fs' : Futures) (e2 : SemaphoreEntry) (gone : ChangesAt (futures_in a) fs' f None)
     (changes : ChangesAt (semaphores_in a) ss' x.semaphore (Some e2)) where
   turn : Readies a i f w x e
   turn = readies m w ready
 
   gone_now : (g : ℕ) → get (named (λ k (y : FutureEntry). y) fs') g ≡ cond (f == g) None (get (store_in a).futures g)
-  gone_now g = kept-changed a.kept.futures.entries fs' f None gone g
+  gone_now g = kept-changed (futures_in a) fs' f None gone g
 
   rises_to : cores.held_of (finished e.core x.acquire) ≡ cores.held_of e.core + demand_of x.acquire
       → cores.held_of turn.core ≡ cores.held_of e.core + demand_of x.acquire
@@ -345,9 +345,9 @@ module _ {a : Inside} {v : Play} {i f : ℕ} {x : FutureEntry} {e : SemaphoreEnt
         things = e.things - 1;
       }
       → cores.held_of (finished e.core x.acquire) ≡ cores.held_of e.core + demand_of x.acquire → cores.held_of e2.core ≡ cores.held_of e.core
-      → Done v i (step v.hall i (events.Poll f w)) answers.Ready (store_of ss' fs' a.kept.permits.entries) (registered_in a) a.list.registered a.list.wakers
+      → Done v i (step v.hall i (events.Poll f w)) answers.Ready (store_of ss' fs' (permits_in a)) (registered_in a) a.list.registered a.list.wakers
   forgotten_done forgets changed rises held =
-      let st' : Store = store_of ss' fs' a.kept.permits.entries in
+      let st' : Store = store_of ss' fs' (permits_in a) in
       let e' : SemaphoreEntry = record e {
         core = record turn.core { live = turn.core.live - demand_of x.acquire };
         forgotten = e.forgotten + demand_of x.acquire;
@@ -372,7 +372,7 @@ module _ {a : Inside} {v : Play} {i f : ℕ} {x : FutureEntry} {e : SemaphoreEnt
 
   -- it becomes a permit
   pub kept_done : x.forgets ≡ false → (ps' : Permits) (p : PermitEntry)
-      → ChangesAt a.kept.permits.entries ps' i (Some p) → p ≡ permit_from x
+      → ChangesAt (permits_in a) ps' i (Some p) → p ≡ permit_from x
       → e2 ≡ record e { core = finished e.core x.acquire } → cores.held_of e2.core ≡ cores.held_of e.core + demand_of x.acquire
       → Done v i (step v.hall i (events.Poll f w)) answers.Ready (store_of ss' fs' ps') (registered_in a) a.list.registered a.list.wakers
   kept_done keeps ps' p put permit changed held =
@@ -381,7 +381,7 @@ module _ {a : Inside} {v : Play} {i f : ℕ} {x : FutureEntry} {e : SemaphoreEnt
       let puts = semaphores_of (semaphores_in a) ss' x.semaphore e2 e' changes (changed ∙ ap (λ (c : cores.Core ℕ). record e { core = c }) turn.is) in
       let up = rises_to (subst (λ (y : SemaphoreEntry). cores.held_of y.core ≡ cores.held_of e.core + demand_of x.acquire) changed held) in
       let permits : st'.permits ≡ insert (store_in a).permits i (record { semaphore = x.semaphore; size = demand_of x.acquire; plain = x.plain }) =
-      named_put (λ n y. permit_of y) a.kept.permits.entries ps' i p put ∙ ap (λ (y : PermitEntry). insert (store_in a).permits i (permit_of y)) permit in
+      named_put (λ n y. permit_of y) (permits_in a) ps' i p put ∙ ap (λ (y : PermitEntry). insert (store_in a).permits i (permit_of y)) permit in
       finishes (plays_ready (store_in a) st' (registered_in a) a.list.registered a.kept.next i x.semaphore f w x (at_stage x turn.stage)
       e turn.core turn.semaphore m.meets.kept (later m.meets) m.meets.low (may_poll_kept m w) turn.seen refl refl (ready_small m ready)
       turn.live turn.queue turn.quiet up turn.shown answers.Ready turn.chosen keeps
@@ -390,16 +390,16 @@ module _ {a : Inside} {v : Play} {i f : ℕ} {x : FutureEntry} {e : SemaphoreEnt
 -- ---- a future is refused, and is gone with nothing
 pub refused_done : {a : Inside} {v : Play} {i f : ℕ} {x : FutureEntry} {e : SemaphoreEntry} → MeetsFuture a v i f x e → (w : ℕ)
     → IsRefused e.core x.acquire → (ss' : Semaphores) (fs' : Futures) (e2 : SemaphoreEntry)
-    → ChangesAt a.kept.futures.entries fs' f None → ChangesAt (semaphores_in a) ss' x.semaphore (Some e2)
+    → ChangesAt (futures_in a) fs' f None → ChangesAt (semaphores_in a) ss' x.semaphore (Some e2)
     → e2 ≡ record e { core = after_refusal e.core x.acquire; plain = e.plain - cond x.plain 1 0; things = e.things - 1 }
-    → Done v i (step v.hall i (events.Poll f w)) answers.Gone (store_of ss' fs' a.kept.permits.entries) (registered_in a) a.list.registered a.list.wakers
+    → Done v i (step v.hall i (events.Poll f w)) answers.Gone (store_of ss' fs' (permits_in a)) (registered_in a) a.list.registered a.list.wakers
 refused_done {a} {v} {i} {f} {x} {e} m w refused ss' fs' e2 gone changes changed = by_acquire x.acquire refl refused
   where
     st' : Store
-    st' = store_of ss' fs' a.kept.permits.entries
+    st' = store_of ss' fs' (permits_in a)
 
     gone_now : (g : ℕ) → get st'.futures g ≡ cond (f == g) None (get (store_in a).futures g)
-    gone_now g = kept-changed a.kept.futures.entries fs' f None gone g
+    gone_now g = kept-changed (futures_in a) fs' f None gone g
 
     finish : PlaysWith (store_in a) st' a.kept.next i (events.Poll f w) (registered_in a) a.list.registered [] → step (hall_in a) i (events.Poll f w) ≡ refusing (hall_in a) f
         → Done v i (step v.hall i (events.Poll f w)) answers.Gone st' (registered_in a) a.list.registered a.list.wakers

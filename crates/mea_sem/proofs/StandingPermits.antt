@@ -31,7 +31,7 @@ use Rattle.mea_sem.proofs.PlaysSemaphores.{plays_nothing}
 use Rattle.mea_sem.proofs.PlaysPermits.{plays_try, plays_lose, plays_merge, plays_split, permit_counts, permits_count}
 use Rattle.mea_sem.proofs.PlaysEnds.{plays_end_permit}
 use Rattle.mea_sem.proofs.Endings.{missing, not_permit}
-use Rattle.mea_sem.proofs.Meets.{registered_in, semaphores_in, store_in, hall_in, IsKeptIn, Meets, MeetsSemaphore, MeetsPermit, Done, permits_semaphore, later, to_kept, done, done_quietly}
+use Rattle.mea_sem.proofs.Meets.{registered_in, semaphores_in, futures_in, permits_in, store_in, hall_in, IsKeptIn, Meets, MeetsSemaphore, MeetsPermit, Done, permits_semaphore, later, to_kept, done, done_quietly}
 use Rattle.mea_sem.proofs.Standing.{Semaphores, Permits, puts_of, semaphores_of, kept_same}
 use Rattle.mea_sem.proofs.StandingSemaphores.{small_forgotten, wakers_few, offered, not_offered, as_it_was}
 
@@ -43,28 +43,28 @@ permit_at : (ps : Permits) (p : ℕ) (x : PermitEntry) → at ps p ≡ Some x �
 permit_at ps p x is = get-named (λ p x. permit_of x) ps p ∙ ap (option_map permit_of) is
 
 -- a permit's semaphore is kept
-pub home_found : (a : Inside) (p : ℕ) {x : PermitEntry} → IsKeptIn a → at a.kept.permits.entries p ≡ Some x → at (semaphores_in a) x.semaphore ≡ None → ⊥
+pub home_found : (a : Inside) (p : ℕ) {x : PermitEntry} → IsKeptIn a → at (permits_in a) p ≡ Some x → at (semaphores_in a) x.semaphore ≡ None → ⊥
 home_found a p {x} k is none =
-    let some : is_some (get (hall_in a).semaphores x.semaphore) ≡ true = k.valid.permits_of p (permit_of x) (permit_at a.kept.permits.entries p x is) in
+    let some : is_some (get (hall_in a).semaphores x.semaphore) ≡ true = k.valid.permits_of p (permit_of x) (permit_at (permits_in a) p x is) in
     let gone : get (hall_in a).semaphores x.semaphore ≡ None =
     get-seen (semaphore_of (store_in a).futures a.kept.next) (store_in a).semaphores x.semaphore
     ∙ ap (option_map (semaphore_of (store_in a).futures a.kept.next x.semaphore)) (kept-at (semaphores_in a) x.semaphore ∙ none) in
     absurd (cc)
 
-pub home_living : (a : Inside) (p : ℕ) {x : PermitEntry} → IsKeptIn a → at a.kept.permits.entries p ≡ Some x → at a.kept.semaphores.entries x.semaphore ≡ None → ⊥
+pub home_living : (a : Inside) (p : ℕ) {x : PermitEntry} → IsKeptIn a → at (permits_in a) p ≡ Some x → at a.kept.semaphores.entries x.semaphore ≡ None → ⊥
 home_living a p {x} k is none = elim (missing a x.semaphore none) [
   | inl gone ↦ home_found a p k is gone
   | inr e ↦ absurd (
-      let other = not_permit a k x.semaphore e.0 e.1 e.3 p (permit_of x) (permit_at a.kept.permits.entries p x is) in
+      let other = not_permit a k x.semaphore e.0 e.1 e.3 p (permit_of x) (permit_at (permits_in a) p x is) in
       let same = eq-eqb x.semaphore x.semaphore refl in
       cc)
 ]
 
 -- a permit that is written back as it stood
-pub written_back : (a : Inside) (p : ℕ) (x : PermitEntry) (ps' : Permits) → at a.kept.permits.entries p ≡ Some x → ChangesAt a.kept.permits.entries ps' p (Some x)
-    → store_of (semaphores_in a) a.kept.futures.entries ps' ≡ store_in a
+pub written_back : (a : Inside) (p : ℕ) (x : PermitEntry) (ps' : Permits) → at (permits_in a) p ≡ Some x → ChangesAt (permits_in a) ps' p (Some x)
+    → store_of (semaphores_in a) (futures_in a) ps' ≡ store_in a
 written_back a p x ps' is written =
-    let same = kept_same (λ p x. permit_of x) a.kept.permits.entries ps' p x x is refl written in
+    let same = kept_same (λ p x. permit_of x) (permits_in a) ps' p x x is refl written in
     λ j. record { semaphores = (store_in a).semaphores; futures = (store_in a).futures; permits = same j }
 
 -- ---- events that change nothing
@@ -75,21 +75,21 @@ module _ {a : Inside} {v : Play} {i : ℕ} (m : Meets a v i) where
   unchanged event reply is quiet replied = done_quietly m event reply
       (plays_nothing (store_in a) (registered_in a) a.list.registered a.kept.next i event m.kept (later m) m.low is) quiet replied
 
-  pub sized : (p : ℕ) (x : PermitEntry) → at a.kept.permits.entries p ≡ Some x
+  pub sized : (p : ℕ) (x : PermitEntry) → at (permits_in a) p ≡ Some x
       → Done v i (step v.hall i (events.Size p)) (answers.Permits x.size) (store_in a) (registered_in a) a.list.registered a.list.wakers
-  sized p x is = unchanged (events.Size p) (answers.Permits x.size) refl refl (ap (λ o. answers.Permits (size_of o)) (sym (permit_at a.kept.permits.entries p x is)))
+  sized p x is = unchanged (events.Size p) (answers.Permits x.size) refl refl (ap (λ o. answers.Permits (size_of o)) (sym (permit_at (permits_in a) p x is)))
 
   -- the outcome of a split of a permit that is there
   abbrev split_in : ℕ → ℕ → Permit → Bool → Outcome
   split_in p n y b = if b then quietly (with_permit (with_permit (hall_in a) p (record y { size = y.size - n })) i (record y { size = n }))
       answers.Held else quietly (hall_in a) answers.Lacking
 
-  pub too_small : (p n : ℕ) (x : PermitEntry) (ps' : Permits) → at a.kept.permits.entries p ≡ Some x → ChangesAt a.kept.permits.entries ps' p (Some x) → x.size < n
-      → Done v i (step v.hall i (events.Split p n)) answers.Lacking (store_of (semaphores_in a) a.kept.futures.entries ps')
+  pub too_small : (p n : ℕ) (x : PermitEntry) (ps' : Permits) → at (permits_in a) p ≡ Some x → ChangesAt (permits_in a) ps' p (Some x) → x.size < n
+      → Done v i (step v.hall i (events.Split p n)) answers.Lacking (store_of (semaphores_in a) (futures_in a) ps')
       (registered_in a) a.list.registered a.list.wakers
   too_small p n x ps' is written lack =
       let outcome : step (hall_in a) i (events.Split p n) ≡ quietly (hall_in a) answers.Lacking =
-      ap (split_of (hall_in a) i p n) (permit_at a.kept.permits.entries p x is) ∙ ap (split_in p n (permit_of x)) (lt-leb n x.size lack) in
+      ap (split_of (hall_in a) i p n) (permit_at (permits_in a) p x is) ∙ ap (split_in p n (permit_of x)) (lt-leb n x.size lack) in
       subst (λ (st : Store). Done v i (step v.hall i (events.Split p n)) answers.Lacking st (registered_in a) a.list.registered a.list.wakers)
       (sym (written_back a p x ps' is written))
       (unchanged (events.Split p n) answers.Lacking (ap (λ o. o.hall) outcome) (ap (λ o. o.wakes) outcome) (ap (λ o. o.reply) (sym outcome)))
@@ -128,7 +128,7 @@ module _ {a : Inside} {v : Play} {i s : ℕ} {e : SemaphoreEntry} (m : MeetsSema
   -- the same where the semaphore was written back as it was
   pub tried_for_nothing : (ss' : Semaphores) (y : SemaphoreEntry) → ChangesAt (semaphores_in a) ss' s (Some y) → y ≡ e
       → (e.core.closed ≡ true) ⊎ (e.core.free < n)
-      → Done v i (try_of v.hall i s n plain) answers.Lacking (store_of ss' a.kept.futures.entries a.kept.permits.entries) (registered_in a) a.list.registered a.list.wakers
+      → Done v i (try_of v.hall i s n plain) answers.Lacking (store_of ss' (futures_in a) (permits_in a)) (registered_in a) a.list.registered a.list.wakers
   tried_for_nothing ss' y changes is lack = subst
       (λ (st : Store). Done v i (try_of v.hall i s n plain) answers.Lacking st (registered_in a) a.list.registered a.list.wakers)
       (sym (as_it_was m ss' y changes is)) (tried_in_vain lack)
@@ -136,8 +136,8 @@ module _ {a : Inside} {v : Play} {i s : ℕ} {e : SemaphoreEntry} (m : MeetsSema
   pub tried : (ss' : Semaphores) (ps' : Permits) (d e' : SemaphoreEntry) → cause_of v.hall (events.Try s n) ≡ None
       → at (semaphores_in a) s ≡ Some d → d.core.closed ≡ false → n ≤ d.core.free
       → e' ≡ record e { core = record e.core { free = e.core.free - n }; plain = e.plain + one plain; things = e.things + 1 } → cores.held_of e'.core ≡ cores.held_of e.core + n
-      → ChangesAt (semaphores_in a) ss' s (Some e') → ChangesAt a.kept.permits.entries ps' i (Some (record { semaphore = s; size = n; plain = plain }))
-      → Done v i (try_of v.hall i s n plain) answers.Held (store_of ss' a.kept.futures.entries ps') (registered_in a) a.list.registered a.list.wakers
+      → ChangesAt (semaphores_in a) ss' s (Some e') → ChangesAt (permits_in a) ps' i (Some (record { semaphore = s; size = n; plain = plain }))
+      → Done v i (try_of v.hall i s n plain) answers.Held (store_of ss' (futures_in a) ps') (registered_in a) a.list.registered a.list.wakers
   tried ss' ps' d e' allowed tested is_open fits new held changes given =
       let there = m.there in
       let one_entry : d ≡ e = cc in
@@ -145,19 +145,19 @@ module _ {a : Inside} {v : Play} {i s : ℕ} {e : SemaphoreEntry} (m : MeetsSema
       let open_still : e.core.closed ≡ false = subst (λ (x : SemaphoreEntry). x.core.closed ≡ false) one_entry is_open in
       let outcome : step (hall_in a) i (by_form plain s n) ≡ chosen true =
       step_by_form plain (hall_in a) i s n ∙ ap chosen (offered m n open_still enough) in
-      let plays = plays_try (store_in a) (store_of ss' a.kept.futures.entries ps') (registered_in a) a.list.registered a.kept.next i s n e m.meets.kept (later m.meets)
+      let plays = plays_try (store_in a) (store_of ss' (futures_in a) ps') (registered_in a) a.list.registered a.kept.next i s n e m.meets.kept (later m.meets)
       m.meets.low (by_form plain s n) plain (fits_by_form plain s n)
       (to_kept m.meets (λ h. cause_of h (by_form plain s n) ≡ None) (allowed_by_form plain v.hall s n allowed))
       (ap (λ o. o.hall) (step_by_form plain (hall_in a) i s n)) open_still enough
-      (puts_of (semaphores_in a) ss' a.kept.futures.entries a.kept.permits.entries ps' s e e' _ m.there changes new)
-      (named_put (λ p x. permit_of x) a.kept.permits.entries ps' i (record { semaphore = s; size = n; plain = plain }) given)
+      (puts_of (semaphores_in a) ss' (futures_in a) (permits_in a) ps' s e e' _ m.there changes new)
+      (named_put (λ p x. permit_of x) (permits_in a) ps' i (record { semaphore = s; size = n; plain = plain }) given)
       (subst (λ (y : SemaphoreEntry). cores.held_of y.core ≡ cores.held_of e.core + n) new held) in
       as_tried (done_quietly m.meets (by_form plain s n) answers.Held plays (ap (λ o. o.wakes) outcome) (ap (λ o. o.reply) (sym outcome)))
 
 -- ---- events on a permit
 module _ {a : Inside} {v : Play} {i p : ℕ} {x : PermitEntry} {e : SemaphoreEntry} (m : MeetsPermit a v i p x e) where
   permit_there : get (store_in a).permits p ≡ Some (permit_of x)
-  permit_there = permit_at a.kept.permits.entries p x m.is
+  permit_there = permit_at (permits_in a) p x m.is
 
   home_there : get (store_in a).semaphores x.semaphore ≡ Some e
   home_there = found (semaphores_in a) x.semaphore e m.there
@@ -185,14 +185,14 @@ module _ {a : Inside} {v : Play} {i p : ℕ} {x : PermitEntry} {e : SemaphoreEnt
   pub lost : (ss' : Semaphores) (ps' : Permits) (e' : SemaphoreEntry) → cause_of v.hall (events.Lose p) ≡ None
       → e' ≡ record e { core = record e.core { live = e.core.live - x.size }; forgotten = e.forgotten + x.size; plain = e.plain - one x.plain; things = e.things - 1 }
       → cores.held_of e'.core + x.size ≡ cores.held_of e.core
-      → ChangesAt (semaphores_in a) ss' x.semaphore (Some e') → ChangesAt a.kept.permits.entries ps' p None
-      → Done v i (step v.hall i (events.Lose p)) (answers.Forgot x.size) (store_of ss' a.kept.futures.entries ps') (registered_in a) a.list.registered a.list.wakers
+      → ChangesAt (semaphores_in a) ss' x.semaphore (Some e') → ChangesAt (permits_in a) ps' p None
+      → Done v i (step v.hall i (events.Lose p)) (answers.Forgot x.size) (store_of ss' (futures_in a) ps') (registered_in a) a.list.registered a.list.wakers
   lost ss' ps' e' allowed new held changes gone =
-      let plays = plays_lose (store_in a) (store_of ss' a.kept.futures.entries ps') (registered_in a) a.list.registered a.kept.next i x.semaphore p e m.meets.kept
+      let plays = plays_lose (store_in a) (store_of ss' (futures_in a) ps') (registered_in a) a.list.registered a.kept.next i x.semaphore p e m.meets.kept
       (later m.meets) m.meets.low (permit_of x) refl permit_small permit_there
       (to_kept m.meets (λ h. cause_of h (events.Lose p) ≡ None) allowed)
-      (puts_of (semaphores_in a) ss' a.kept.futures.entries a.kept.permits.entries ps' x.semaphore e e' _ m.there changes new)
-      (named_remove (λ p x. permit_of x) a.kept.permits.entries ps' p gone)
+      (puts_of (semaphores_in a) ss' (futures_in a) (permits_in a) ps' x.semaphore e e' _ m.there changes new)
+      (named_remove (λ p x. permit_of x) (permits_in a) ps' p gone)
       (subst (λ (y : SemaphoreEntry). cores.held_of y.core + x.size ≡ cores.held_of e.core) new held) in
       done_quietly m.meets (events.Lose p) (answers.Forgot x.size) plays (ap (λ o. (lose_of (hall_in a) p o).wakes) permit_there)
       (ap (λ o. (lose_of (hall_in a) p o).reply) (sym permit_there))
@@ -204,18 +204,18 @@ module _ {a : Inside} {v : Play} {i p : ℕ} {x : PermitEntry} {e : SemaphoreEnt
         plain = e.plain - one x.plain;
         things = e.things - 1;
       } → cores.held_of e'.core + x.size ≡ cores.held_of e.core
-      → ChangesAt (semaphores_in a) ss' x.semaphore (Some e') → ChangesAt a.kept.permits.entries ps' p None
+      → ChangesAt (semaphores_in a) ss' x.semaphore (Some e') → ChangesAt (permits_in a) ps' p None
       → left ≡ length (cores.wakers_of (granted_in e.core.queue x.size))
       → wakes' ≡ a.list.wakers ++ cores.wakers_of (granted_in e.core.queue x.size) → sp' + left ≡ a.list.registered
-      → Done v i (step v.hall i (events.End p)) answers.Done (store_of ss' a.kept.futures.entries ps') ((registered_in a) - left) sp' wakes'
+      → Done v i (step v.hall i (events.End p)) answers.Done (store_of ss' (futures_in a) ps') ((registered_in a) - left) sp' wakes'
   ended ss' ps' left sp' e' wakes' allowed no_future new held changes gone count moved spare =
       let alone : get (hall_in a).futures p ≡ None = to_kept m.meets (λ h. get h.futures p ≡ None) no_future in
       let few = wakers_few (permits_semaphore m) x.size in
       let room = m.meets.kept.room in
-      let whole = plays_end_permit (store_in a) (store_of ss' a.kept.futures.entries ps') (registered_in a) ((registered_in a) - left)
+      let whole = plays_end_permit (store_in a) (store_of ss' (futures_in a) ps') (registered_in a) ((registered_in a) - left)
       sp' a.list.registered a.kept.next i x.semaphore x.size e m.meets.kept (later m.meets) m.meets.low home_there p (permit_of x) refl permit_there alone
       (to_kept m.meets (λ h. cause_of h (events.End p) ≡ None) allowed) (semaphores_of (semaphores_in a) ss' x.semaphore e' _ changes new) refl
-      (named_remove (λ p x. permit_of x) a.kept.permits.entries ps' p gone)
+      (named_remove (λ p x. permit_of x) (permits_in a) ps' p gone)
       (subst (λ (y : SemaphoreEntry). cores.held_of y.core + x.size ≡ cores.held_of e.core) new held) (omega (arith, count, few))
       (omega (arith, count, few, spare, room)) in
       let outcome : (step (hall_in a) i (events.End p)).reply ≡ answers.Done =
@@ -259,8 +259,8 @@ apart_names m p q x apart = same_named _ _ (λ k.
     at_each k false true pk qk = refl
     at_each k false false pk qk = refl
 
-module _ {a : Inside} {v : Play} {i : ℕ} (m : Meets a v i) (p q : ℕ) (apart : p ≡ q → ⊥) (x y : PermitEntry) (isx : at a.kept.permits.entries p ≡ Some x)
-    (isy : at a.kept.permits.entries q ≡ Some y) (same : are_of_one_kind (Some (permit_of x)) (Some (permit_of y)) ≡ true) where
+module _ {a : Inside} {v : Play} {i : ℕ} (m : Meets a v i) (p q : ℕ) (apart : p ≡ q → ⊥) (x y : PermitEntry) (isx : at (permits_in a) p ≡ Some x)
+    (isy : at (permits_in a) q ≡ Some y) (same : are_of_one_kind (Some (permit_of x)) (Some (permit_of y)) ≡ true) where
   alike : (x.semaphore ≡ y.semaphore) × (y.plain ≡ x.plain)
   alike = of_one_kind (permit_of x) (permit_of y) same
 
@@ -268,7 +268,7 @@ module _ {a : Inside} {v : Play} {i : ℕ} (m : Meets a v i) (p q : ℕ) (apart 
   may_merge = ap (λ t. unknown_unless (not t && are_of_one_kind (get v.hall.permits p) (get v.hall.permits q))) (ne_eqb p q apart)
       ∙ ap unknown_unless ((λ j. are_of_one_kind (seen_at p x isx j) (seen_at q y isy j)) ∙ same)
     where
-      seen_at : (k : ℕ) (z : PermitEntry) → at a.kept.permits.entries k ≡ Some z → get v.hall.permits k ≡ Some (permit_of z)
+      seen_at : (k : ℕ) (z : PermitEntry) → at (permits_in a) k ≡ Some z → get v.hall.permits k ≡ Some (permit_of z)
       seen_at k z is = permit-at a m.seen k ∙ ap (option_map permit_of) is
 
   pub sizes_fit : x.size + y.size < 2 ^ 64
@@ -278,39 +278,39 @@ module _ {a : Inside} {v : Play} {i : ℕ} (m : Meets a v i) (p q : ℕ) (apart 
       by_entry None none = absurd (home_found a p m.kept isx none)
       by_entry (Some e) there =
           let most = permits_count (store_in a) (registered_in a) a.list.registered a.kept.next p q (permit_of x) (permit_of y) e m.kept apart
-          (permit_at a.kept.permits.entries p x isx) (permit_at a.kept.permits.entries q y isy) alike.0 (found (semaphores_in a) x.semaphore e there) in
+          (permit_at (permits_in a) p x isx) (permit_at (permits_in a) q y isy) alike.0 (found (semaphores_in a) x.semaphore e there) in
           let kept_as = (m.kept.each x.semaphore e (found (semaphores_in a) x.semaphore e there)).held in
           let small = m.kept.valid.fits x.semaphore in
           omega (arith, most, kept_as, small)
 
   pub merged : (ss' : Semaphores) (ps1 ps' : Permits) (e e' : SemaphoreEntry) → at (semaphores_in a) y.semaphore ≡ Some e
       → e' ≡ record e { plain = e.plain - one y.plain; things = e.things - 1 } → ChangesAt (semaphores_in a) ss' y.semaphore (Some e')
-      → ChangesAt a.kept.permits.entries ps1 p (Some (record x { size = x.size + y.size })) → ChangesAt ps1 ps' q None
-      → Done v i (step v.hall i (events.Merge p q)) answers.Done (store_of ss' a.kept.futures.entries ps') (registered_in a) a.list.registered a.list.wakers
+      → ChangesAt (permits_in a) ps1 p (Some (record x { size = x.size + y.size })) → ChangesAt ps1 ps' q None
+      → Done v i (step v.hall i (events.Merge p q)) answers.Done (store_of ss' (futures_in a) ps') (registered_in a) a.list.registered a.list.wakers
   merged ss' ps1 ps' e e' there new changes grown gone =
-      let st' : Store = store_of ss' a.kept.futures.entries ps' in
+      let st' : Store = store_of ss' (futures_in a) ps' in
       let permits : st'.permits ≡ insert (remove (store_in a).permits q) p (record (permit_of x) { size = x.size + y.size }) =
       named_remove (λ p x. permit_of x) ps1 ps' q gone
-      ∙ ap (λ m. remove m q) (named_put (λ p x. permit_of x) a.kept.permits.entries ps1 p (record x { size = x.size + y.size }) grown)
+      ∙ ap (λ m. remove m q) (named_put (λ p x. permit_of x) (permits_in a) ps1 p (record x { size = x.size + y.size }) grown)
       ∙ apart_names (store_in a).permits p q (record (permit_of x) { size = x.size + y.size }) apart in
       let plays = plays_merge (store_in a) st' (registered_in a) a.list.registered a.kept.next i y.semaphore q e m.kept (later m) m.low p (permit_of x)
       (permit_of y) alike.0 refl alike.1 apart
-      (permit_at a.kept.permits.entries p x isx) (permit_at a.kept.permits.entries q y isy) (to_kept m (λ h. cause_of h (events.Merge p q) ≡ None) may_merge)
-      (puts_of (semaphores_in a) ss' a.kept.futures.entries a.kept.permits.entries ps' y.semaphore e e' _ there changes
+      (permit_at (permits_in a) p x isx) (permit_at (permits_in a) q y isy) (to_kept m (λ h. cause_of h (events.Merge p q) ≡ None) may_merge)
+      (puts_of (semaphores_in a) ss' (futures_in a) (permits_in a) ps' y.semaphore e e' _ there changes
       (new ∙ ap (λ b. record e { plain = e.plain - one b; things = e.things - 1 }) alike.1)) permits in
       done_quietly m (events.Merge p q) answers.Done plays refl refl
 
 -- ---- splits
 pub halved : {a : Inside} {v : Play} {i p : ℕ} {x : PermitEntry} {e : SemaphoreEntry} → MeetsPermit a v i p x e
     → (ss' : Semaphores) (ps1 ps' : Permits) (n : ℕ) (e' : SemaphoreEntry) → n ≤ x.size → e' ≡ record e { plain = e.plain + one x.plain; things = e.things + 1 }
-    → ChangesAt (semaphores_in a) ss' x.semaphore (Some e') → ChangesAt a.kept.permits.entries ps1 p (Some (record x { size = x.size - n }))
+    → ChangesAt (semaphores_in a) ss' x.semaphore (Some e') → ChangesAt (permits_in a) ps1 p (Some (record x { size = x.size - n }))
     → ChangesAt ps1 ps' i (Some (record x { size = n }))
-    → Done v i (step v.hall i (events.Split p n)) answers.Held (store_of ss' a.kept.futures.entries ps') (registered_in a) a.list.registered a.list.wakers
+    → Done v i (step v.hall i (events.Split p n)) answers.Held (store_of ss' (futures_in a) ps') (registered_in a) a.list.registered a.list.wakers
 halved {a} {v} {i} {p} {x} {e} m ss' ps1 ps' n e' enough new changes less_now given =
     let h : Hall = hall_in a in
-    let ps : Permits = a.kept.permits.entries in
+    let ps : Permits = (permits_in a) in
     let here = permit_there m in
-    let st' : Store = store_of ss' a.kept.futures.entries ps' in
+    let st' : Store = store_of ss' (futures_in a) ps' in
     let permits : st'.permits ≡ insert (insert (store_in a).permits p (record (permit_of x) { size = x.size - n })) i (record (permit_of x) { size = n }) =
     named_put (λ p x. permit_of x) ps1 ps' i (record x { size = n }) given
     ∙ ap (λ m. insert m i (record (permit_of x) { size = n })) (named_put (λ p x. permit_of x) ps ps1 p (record x { size = x.size - n }) less_now) in
@@ -318,19 +318,19 @@ halved {a} {v} {i} {p} {x} {e} m ss' ps1 ps' n e' enough new changes less_now gi
     ap (split_of h i p n) here ∙ ap (split_in m.meets p n (permit_of x)) (le-leb n x.size enough) in
     let plays = plays_split (store_in a) st' (registered_in a) a.list.registered a.kept.next i x.semaphore n e m.meets.kept (later m.meets) m.meets.low p (permit_of x)
     refl enough here (to_kept m.meets (λ g. cause_of g (events.Split p n) ≡ None) (permit_known a m.meets.seen p x m.is))
-    (puts_of (semaphores_in a) ss' a.kept.futures.entries ps ps' x.semaphore e e' _ m.there changes new) permits in
+    (puts_of (semaphores_in a) ss' (futures_in a) ps ps' x.semaphore e e' _ m.there changes new) permits in
     done_quietly m.meets (events.Split p n) answers.Held plays (ap (λ o. o.wakes) outcome) (ap (λ o. o.reply) (sym outcome))
 
 -- where the part found no room, the permit has its size back
-pub undone : (a : Inside) (p n : ℕ) (x y : PermitEntry) (ps1 ps2 ps' : Permits) → at a.kept.permits.entries p ≡ Some x → n ≤ x.size
-    → ChangesAt a.kept.permits.entries ps1 p (Some (record x { size = x.size - n })) → ps2 ≡ ps1 → at ps2 p ≡ Some y
-    → ChangesAt ps2 ps' p (Some (record y { size = y.size + n })) → store_of (semaphores_in a) a.kept.futures.entries ps' ≡ store_in a
+pub undone : (a : Inside) (p n : ℕ) (x y : PermitEntry) (ps1 ps2 ps' : Permits) → at (permits_in a) p ≡ Some x → n ≤ x.size
+    → ChangesAt (permits_in a) ps1 p (Some (record x { size = x.size - n })) → ps2 ≡ ps1 → at ps2 p ≡ Some y
+    → ChangesAt ps2 ps' p (Some (record y { size = y.size + n })) → store_of (semaphores_in a) (futures_in a) ps' ≡ store_in a
 undone a p n x y ps1 ps2 ps' is enough less_now same isy back =
-    let smaller : y ≡ record x { size = x.size - n } = inside (sym isy ∙ ap (λ ps. at ps p) same ∙ changed_at a.kept.permits.entries ps1 p _ less_now) in
+    let smaller : y ≡ record x { size = x.size - n } = inside (sym isy ∙ ap (λ ps. at ps p) same ∙ changed_at (permits_in a) ps1 p _ less_now) in
     let whole : record y { size = y.size + n } ≡ x = (λ j. record (smaller j) { size = (smaller j).size + n }) ∙ sizes_back in
     let back1 = subst (λ (ps : Permits). ChangesAt ps ps' p (Some (record y { size = y.size + n }))) same back in
     written_back a p x ps' is
-    (subst (λ (z : PermitEntry). ChangesAt a.kept.permits.entries ps' p (Some z)) whole (changes_twice a.kept.permits.entries ps1 ps' p _ _ less_now back1))
+    (subst (λ (z : PermitEntry). ChangesAt (permits_in a) ps' p (Some z)) whole (changes_twice (permits_in a) ps1 ps' p _ _ less_now back1))
   where
     sizes_back : record x { size = x.size - n + n } ≡ x
     sizes_back = ap (λ t. record x { size = t }) (let is_so : x.size - n + n ≡ x.size = omega arith in is_so)

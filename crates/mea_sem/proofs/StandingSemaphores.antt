@@ -35,7 +35,7 @@ use Rattle.mea_sem.proofs.PlaysNew.{fresh_core, fresh_entry, plays_new}
 use Rattle.mea_sem.proofs.PlaysPours.{wakers_poured}
 use Rattle.mea_sem.proofs.PlaysEnds.{plays_release}
 use Rattle.mea_sem.proofs.PlaysCloses.{wakers_waiting, plays_close}
-use Rattle.mea_sem.proofs.Meets.{registered_in, semaphores_in, store_in, hall_in, IsKeptIn, Meets, MeetsSemaphore, Done, later, to_kept, done, done_quietly}
+use Rattle.mea_sem.proofs.Meets.{registered_in, semaphores_in, futures_in, permits_in, store_in, hall_in, IsKeptIn, Meets, MeetsSemaphore, Done, later, to_kept, done, done_quietly}
 use Rattle.mea_sem.proofs.Standing.{Semaphores, Futures, Permits, puts_of, semaphores_of, kept_same}
 use Rattle.mea_sem.proofs.Lives.{live-seen, ledger-seen}
 
@@ -219,10 +219,10 @@ module _ {a : Inside} {v : Play} {i s : ℕ} {e : SemaphoreEntry} (m : MeetsSema
   -- ---- events that change the semaphore
   module _ (ss' : Semaphores) (x : SemaphoreEntry) (changes : ChangesAt (semaphores_in a) ss' s (Some x)) where
     abbrev st' : Store
-    st' = store_of ss' a.kept.futures.entries a.kept.permits.entries
+    st' = store_of ss' (futures_in a) (permits_in a)
 
     puts : (e' : SemaphoreEntry) → x ≡ e' → Puts (store_in a) st' s e e'
-    puts e' is = puts_of (semaphores_in a) ss' a.kept.futures.entries a.kept.permits.entries a.kept.permits.entries s e x e' m.there changes is
+    puts e' is = puts_of (semaphores_in a) ss' (futures_in a) (permits_in a) (permits_in a) s e x e' m.there changes is
 
     held_by : (e' : SemaphoreEntry) → x ≡ e' → cores.held_of x.core ≡ cores.held_of e.core → cores.held_of e'.core ≡ cores.held_of e.core
     held_by e' is held = subst (λ (y : SemaphoreEntry). cores.held_of y.core ≡ cores.held_of e.core) is held
@@ -240,22 +240,22 @@ module _ {a : Inside} {v : Play} {i s : ℕ} {e : SemaphoreEntry} (m : MeetsSema
     seen_unchanged is wakes' same = (λ j. record { hall = hall_of (as_it_was is j) a.kept.next; wakes = same j; next = a.kept.next }) ∙ m.meets.seen
 
     -- nor did an insertion that failed change anything
-    pub kept_with_futures : (fs : Futures) → x ≡ e → fs ≡ a.kept.futures.entries → AreKeptSemaphores (store_of ss' fs a.kept.permits.entries) (registered_in a) a.list.registered a.kept.next
-    kept_with_futures fs is same = subst (λ (xs : Futures). AreKeptSemaphores (store_of ss' xs a.kept.permits.entries) (registered_in a) a.list.registered a.kept.next) (sym same)
+    pub kept_with_futures : (fs : Futures) → x ≡ e → fs ≡ futures_in a → AreKeptSemaphores (store_of ss' fs (permits_in a)) (registered_in a) a.list.registered a.kept.next
+    kept_with_futures fs is same = subst (λ (xs : Futures). AreKeptSemaphores (store_of ss' xs (permits_in a)) (registered_in a) a.list.registered a.kept.next) (sym same)
         (kept_unchanged is a.list.registered k.room)
 
-    pub seen_with_futures : (fs : Futures) → x ≡ e → fs ≡ a.kept.futures.entries
-        → record { hall = hall_of (store_of ss' fs a.kept.permits.entries) a.kept.next; wakes = a.list.wakers; next = a.kept.next } ≡ v
-    seen_with_futures fs is same = (λ j. record { hall = hall_of (store_of ss' (same j) a.kept.permits.entries) a.kept.next; wakes = a.list.wakers; next = a.kept.next })
+    pub seen_with_futures : (fs : Futures) → x ≡ e → fs ≡ futures_in a
+        → record { hall = hall_of (store_of ss' fs (permits_in a)) a.kept.next; wakes = a.list.wakers; next = a.kept.next } ≡ v
+    seen_with_futures fs is same = (λ j. record { hall = hall_of (store_of ss' (same j) (permits_in a)) a.kept.next; wakes = a.list.wakers; next = a.kept.next })
         ∙ seen_unchanged is a.list.wakers refl
 
-    pub kept_with_permits : (ps : Permits) → x ≡ e → ps ≡ a.kept.permits.entries → AreKeptSemaphores (store_of ss' a.kept.futures.entries ps) (registered_in a) a.list.registered a.kept.next
-    kept_with_permits ps is same = subst (λ (xs : Permits). AreKeptSemaphores (store_of ss' a.kept.futures.entries xs) (registered_in a) a.list.registered a.kept.next) (sym same)
+    pub kept_with_permits : (ps : Permits) → x ≡ e → ps ≡ permits_in a → AreKeptSemaphores (store_of ss' (futures_in a) ps) (registered_in a) a.list.registered a.kept.next
+    kept_with_permits ps is same = subst (λ (xs : Permits). AreKeptSemaphores (store_of ss' (futures_in a) xs) (registered_in a) a.list.registered a.kept.next) (sym same)
         (kept_unchanged is a.list.registered k.room)
 
-    pub seen_with_permits : (ps : Permits) → x ≡ e → ps ≡ a.kept.permits.entries
-        → record { hall = hall_of (store_of ss' a.kept.futures.entries ps) a.kept.next; wakes = a.list.wakers; next = a.kept.next } ≡ v
-    seen_with_permits ps is same = (λ j. record { hall = hall_of (store_of ss' a.kept.futures.entries (same j)) a.kept.next; wakes = a.list.wakers; next = a.kept.next })
+    pub seen_with_permits : (ps : Permits) → x ≡ e → ps ≡ permits_in a
+        → record { hall = hall_of (store_of ss' (futures_in a) ps) a.kept.next; wakes = a.list.wakers; next = a.kept.next } ≡ v
+    seen_with_permits ps is same = (λ j. record { hall = hall_of (store_of ss' (futures_in a) (same j)) a.kept.next; wakes = a.list.wakers; next = a.kept.next })
         ∙ seen_unchanged is a.list.wakers refl
 
     pub done_lacking : (n : ℕ) → x ≡ e → (e.core.closed ≡ true) ⊎ (e.core.free < n)
@@ -379,9 +379,9 @@ module _ {a : Inside} {v : Play} {i s : ℕ} {e : SemaphoreEntry} (m : MeetsSema
 pub done_new : {a : Inside} {v : Play} {i : ℕ} → Meets a v i → (n : ℕ) → n < 2 ^ 64 → (ss' : Semaphores) (core : cores.Core ℕ)
     → ChangesAt (semaphores_in a) ss' i (Some (record { core = core; made = n; released = 0; forgotten = 0; named = true; plain = 0; things = 0 }))
     → core ≡ fresh_core n → cores.held_of core ≡ 0
-    → Done v i (step v.hall i (events.New n)) answers.Made (store_of ss' a.kept.futures.entries a.kept.permits.entries) (registered_in a) a.list.registered a.list.wakers
+    → Done v i (step v.hall i (events.New n)) answers.Made (store_of ss' (futures_in a) (permits_in a)) (registered_in a) a.list.registered a.list.wakers
 done_new {a} {v} {i} m n small ss' core changes is held =
-    let plays = plays_new (store_in a) (registered_in a) a.list.registered a.kept.next i m.kept (later m) m.low (store_of ss' a.kept.futures.entries a.kept.permits.entries) n small
+    let plays = plays_new (store_in a) (registered_in a) a.list.registered a.kept.next i m.kept (later m) m.low (store_of ss' (futures_in a) (permits_in a)) n small
     (semaphores_of (semaphores_in a) ss' i _ (fresh_entry n) changes (ap (λ (x : cores.Core ℕ). record (fresh_entry n) { core = x }) is)) refl refl
     (subst (λ (x : cores.Core ℕ). cores.held_of x ≡ 0) is held) in
     done_quietly m (events.New n) answers.Made plays refl refl

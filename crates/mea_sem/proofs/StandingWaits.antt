@@ -30,7 +30,7 @@ use Rattle.mea_sem.proofs.PlaysAgain.{plays_again}
 use Rattle.mea_sem.proofs.PlaysFutures.{plays_queued}
 use Rattle.mea_sem.proofs.PlaysPours.{between, between_at, wakers_poured}
 use Rattle.mea_sem.proofs.PlaysEnds.{plays_gone_new, plays_gone_cut, PlaysWith, plays_end_granted, plays_end_waiting}
-use Rattle.mea_sem.proofs.Meets.{registered_in, semaphores_in, store_in, hall_in, IsKeptIn, MeetsFuture, Done, its_semaphore, later, to_kept, done, done_quietly}
+use Rattle.mea_sem.proofs.Meets.{registered_in, semaphores_in, futures_in, permits_in, store_in, hall_in, IsKeptIn, MeetsFuture, Done, its_semaphore, later, to_kept, done, done_quietly}
 use Rattle.mea_sem.proofs.Standing.{Semaphores, Futures, Permits, semaphores_of, kept_same}
 use Rattle.mea_sem.proofs.StandingSemaphores.{wakers_registered, kept_room}
 use Rattle.mea_sem.proofs.StandingFutures.{future_there, home_there, its_belongs, seen_as, granted_stage, pending_new, waiting_as, pending_again, paid_part, granted_live, cut_stage, may_poll_kept}
@@ -39,12 +39,12 @@ module _ {a : Inside} {v : Play} {i f : ℕ} {x : FutureEntry} {e : SemaphoreEnt
   -- ---- a first poll that waits
   queue_done : (w d n w' : ℕ) (out : Wakes ℕ) (ss' : Semaphores) (fs' : Futures) (e2 : SemaphoreEntry) (x2 : FutureEntry)
       → Waits e.core (acquires.New d) → w' ≡ (registered_in a) + 1 → out.wakers ≡ a.list.wakers → w' ≤ out.spare → x.acquire ≡ acquires.New d
-      → x2 ≡ record x { acquire = acquires.Queued d n } → ChangesAt a.kept.futures.entries fs' f (Some x2) → ChangesAt (semaphores_in a) ss' x.semaphore (Some e2)
+      → x2 ≡ record x { acquire = acquires.Queued d n } → ChangesAt (futures_in a) fs' f (Some x2) → ChangesAt (semaphores_in a) ss' x.semaphore (Some e2)
       → Queues e.core e2.core d w n → e2 ≡ record e { core = e2.core } → cores.held_of e2.core ≡ cores.held_of e.core
-      → Done v i (step v.hall i (events.Poll f w)) answers.Pending (store_of ss' fs' a.kept.permits.entries) w' out.spare out.wakers
+      → Done v i (step v.hall i (events.Poll f w)) answers.Pending (store_of ss' fs' (permits_in a)) w' out.spare out.wakers
   queue_done w d n w' out ss' fs' e2 x2 lacks one_more same room new x2_is put changes queues rest held =
       let st : Store = store_in a in
-      let st' : Store = store_of ss' fs' a.kept.permits.entries in
+      let st' : Store = store_of ss' fs' (permits_in a) in
       let chosen = pending_new m w d new lacks in
       let hall : (step (hall_in a) i (events.Poll f w)).hall ≡ queueing (hall_in a) f w (at_stage (record x { acquire = acquires.New d }) New) =
       ap (λ o. o.hall) chosen ∙ ap (λ b. queueing (hall_in a) f w (at_stage (record x { acquire = b }) New)) new in
@@ -52,7 +52,7 @@ module _ {a : Inside} {v : Play} {i f : ℕ} {x : FutureEntry} {e : SemaphoreEnt
       rest ∙ ap (λ (c : cores.Core ℕ). record e { core = c }) queues.is in
       let plays = plays_queued st st' (registered_in a) a.list.registered out.spare a.kept.next i x.semaphore f w d n x e m.meets.kept (later m.meets)
       m.meets.low refl new (home_there m) (semaphores_of (semaphores_in a) ss' x.semaphore e2 _ changes core) (future_there m)
-      (λ g. kept-changed a.kept.futures.entries fs' f (Some x2) put g ∙ ap (λ y. cond (f == g) (Some y) (get st.futures g)) x2_is)
+      (λ g. kept-changed (futures_in a) fs' f (Some x2) put g ∙ ap (λ y. cond (f == g) (Some y) (get st.futures g)) x2_is)
       refl queues.not_waiting queues.not_granted lacks.0 (may_poll_kept m w) hall
       (subst (λ (c : cores.Core ℕ). cores.held_of c ≡ cores.held_of e.core) queues.is held) (subst (λ r. r ≤ out.spare) one_more room) in
       let settled = subst (λ r. Plays st st' a.kept.next i (events.Poll f w) r out.spare) (sym one_more) plays in
@@ -61,41 +61,41 @@ module _ {a : Inside} {v : Play} {i f : ℕ} {x : FutureEntry} {e : SemaphoreEnt
 
   pub queued_done : (w n w' : ℕ) (out : Wakes ℕ) (ss' : Semaphores) (fs' : Futures) (e2 : SemaphoreEntry) (x2 : FutureEntry)
       → (d : ℕ) × (x.acquire ≡ acquires.New d) → Waits e.core x.acquire → w' ≡ (registered_in a) + 1 → out.wakers ≡ a.list.wakers → w' ≤ out.spare
-      → x2 ≡ record x { acquire = acquires.Queued (demand_of x.acquire) n } → ChangesAt a.kept.futures.entries fs' f (Some x2)
+      → x2 ≡ record x { acquire = acquires.Queued (demand_of x.acquire) n } → ChangesAt (futures_in a) fs' f (Some x2)
       → ChangesAt (semaphores_in a) ss' x.semaphore (Some e2)
       → Queues e.core e2.core (demand_of x.acquire) w n → e2 ≡ record e { core = e2.core } → cores.held_of e2.core ≡ cores.held_of e.core
-      → Done v i (step v.hall i (events.Poll f w)) answers.Pending (store_of ss' fs' a.kept.permits.entries) w' out.spare out.wakers
+      → Done v i (step v.hall i (events.Poll f w)) answers.Pending (store_of ss' fs' (permits_in a)) w' out.spare out.wakers
   queued_done w n w' out ss' fs' e2 x2 never waits one_more same room x2_is put changes queues rest held =
       let new : x.acquire ≡ acquires.New (demand_of x.acquire) = never.1 ∙ ap (λ d. acquires.New d) (sym (ap demand_of never.1)) in
       queue_done w (demand_of x.acquire) n w' out ss' fs' e2 x2 (subst (Waits e.core) new waits) one_more same room new x2_is put changes queues rest held
 
   -- ---- a further poll that waits
   again_done : (w d n : ℕ) (ss' : Semaphores) (fs' : Futures) (e2 : SemaphoreEntry) (x2 : FutureEntry) → Waits e.core (acquires.Queued d n)
-      → x.acquire ≡ acquires.Queued d n → x2 ≡ x → ChangesAt a.kept.futures.entries fs' f (Some x2) → ChangesAt (semaphores_in a) ss' x.semaphore (Some e2)
+      → x.acquire ≡ acquires.Queued d n → x2 ≡ x → ChangesAt (futures_in a) fs' f (Some x2) → ChangesAt (semaphores_in a) ss' x.semaphore (Some e2)
       → e2 ≡ record e { core = record e.core { queue = with_waker e.core.queue n w } } → cores.held_of e2.core ≡ cores.held_of e.core
-      → Done v i (step v.hall i (events.Poll f w)) answers.Pending (store_of ss' fs' a.kept.permits.entries)
+      → Done v i (step v.hall i (events.Poll f w)) answers.Pending (store_of ss' fs' (permits_in a))
       (registered_in a) a.list.registered a.list.wakers
   again_done w d n ss' fs' e2 x2 waits queued same written changes core held =
       let chosen = pending_again m w d n waits.0 queued waits.1 in
       let hall : (step (hall_in a) i (events.Poll f w)).hall ≡ with_future (hall_in a) f (at_stage (record x { acquire = acquires.Queued d n }) (Waiting w)) =
       ap (λ o. o.hall) chosen ∙ ap (λ b. with_future (hall_in a) f (at_stage (record x { acquire = b }) (Waiting w))) queued in
-      let plays = plays_again (store_in a) (store_of ss' fs' a.kept.permits.entries)
+      let plays = plays_again (store_in a) (store_of ss' fs' (permits_in a))
       (registered_in a) a.list.registered a.kept.next i x.semaphore f w d n waits.0 x e m.meets.kept (later m.meets) m.meets.low refl queued (home_there m)
       (semaphores_of (semaphores_in a) ss' x.semaphore e2 _ changes core) (future_there m)
-      (kept_same (λ k x. x) a.kept.futures.entries fs' f x x2 m.is same written) refl waits.1 (may_poll_kept m w) hall
+      (kept_same (λ k x. x) (futures_in a) fs' f x x2 m.is same written) refl waits.1 (may_poll_kept m w) hall
       (subst (λ (y : SemaphoreEntry). cores.held_of y.core ≡ cores.held_of e.core) core held) in
       done_quietly m.meets (events.Poll f w) answers.Pending plays (ap (λ o. o.wakes) chosen) (sym (ap (λ o. o.reply) chosen))
 
   pub waited_done : (w : ℕ) (ss' : Semaphores) (fs' : Futures) (e2 : SemaphoreEntry) (x2 : FutureEntry)
-      → ((d : ℕ) → x.acquire ≢ acquires.New d) → Waits e.core x.acquire → x2 ≡ x → ChangesAt a.kept.futures.entries fs' f (Some x2)
+      → ((d : ℕ) → x.acquire ≢ acquires.New d) → Waits e.core x.acquire → x2 ≡ x → ChangesAt (futures_in a) fs' f (Some x2)
       → ChangesAt (semaphores_in a) ss' x.semaphore (Some e2)
       → WaitsOn e x.acquire w e2 → cores.held_of e2.core ≡ cores.held_of e.core
-      → Done v i (step v.hall i (events.Poll f w)) answers.Pending (store_of ss' fs' a.kept.permits.entries)
+      → Done v i (step v.hall i (events.Poll f w)) answers.Pending (store_of ss' fs' (permits_in a))
       (registered_in a) a.list.registered a.list.wakers
   waited_done w ss' fs' e2 x2 polled waits same written changes core held = by_acquire x.acquire refl waits core
     where
       by_acquire : (b : Acquire) → x.acquire ≡ b → Waits e.core b → WaitsOn e b w e2
-          → Done v i (step v.hall i (events.Poll f w)) answers.Pending (store_of ss' fs' a.kept.permits.entries) (registered_in a) a.list.registered a.list.wakers
+          → Done v i (step v.hall i (events.Poll f w)) answers.Pending (store_of ss' fs' (permits_in a)) (registered_in a) a.list.registered a.list.wakers
       by_acquire (acquires.New d) is pending on = absurd (polled d is)
       by_acquire (acquires.Queued d n) is pending on = again_done w d n ss' fs' e2 x2 pending is same written changes on held
       by_acquire (acquires.Done d) is pending on = absurd (subst IsOpen is (its_belongs m).1)
@@ -103,12 +103,12 @@ module _ {a : Inside} {v : Play} {i f : ℕ} {x : FutureEntry} {e : SemaphoreEnt
 
   -- ---- a poll that found no memory: what was found was written back as it stood
   module _ (ss' : Semaphores) (fs' : Futures) (ps' : Permits) (e2 : SemaphoreEntry) (x2 : FutureEntry) (same_e : e2 ≡ e) (same_x : x2 ≡ x)
-      (same_permits : ps' ≡ a.kept.permits.entries) (written : ChangesAt a.kept.futures.entries fs' f (Some x2))
+      (same_permits : ps' ≡ permits_in a) (written : ChangesAt (futures_in a) fs' f (Some x2))
       (changes : ChangesAt (semaphores_in a) ss' x.semaphore (Some e2)) where
     as_found : store_of ss' fs' ps' ≡ store_in a
     as_found =
         let semaphores = kept_same (λ k x. x) (semaphores_in a) ss' x.semaphore e e2 m.there same_e changes in
-        let futures = kept_same (λ k x. x) a.kept.futures.entries fs' f x x2 m.is same_x written in
+        let futures = kept_same (λ k x. x) (futures_in a) fs' f x x2 m.is same_x written in
         λ j. record { semaphores = semaphores j; futures = futures j; permits = (store_of ss' fs' (same_permits j)).permits }
 
     pub kept_as_found : (sp' : ℕ) → (registered_in a) ≤ sp' → AreKeptSemaphores (store_of ss' fs' ps') (registered_in a) sp' a.kept.next
@@ -150,14 +150,14 @@ module _ {a : Inside} {v : Play} {i f : ℕ} {x : FutureEntry} {e : SemaphoreEnt
               omega (arith, count, all, part, fewer))
           by_place (inr cut) = (let none = (h.2 cut).2 in omega (arith, none))
 
-  module _ (there : IsSome (get v.hall.futures f)) (ss' : Semaphores) (fs' : Futures) (sp' : ℕ) (gone : ChangesAt a.kept.futures.entries fs' f None)
+  module _ (there : IsSome (get v.hall.futures f)) (ss' : Semaphores) (fs' : Futures) (sp' : ℕ) (gone : ChangesAt (futures_in a) fs' f None)
       (changes : ChangesAt (semaphores_in a) ss' x.semaphore (Some e2)) (spare : a.list.registered ≤ sp' + left)
       (held : cores.held_of e2.core ≡ cores.held_of e.core) where
     abbrev st : Store
     st = store_in a
 
     abbrev st' : Store
-    st' = store_of ss' fs' a.kept.permits.entries
+    st' = store_of ss' fs' (permits_in a)
 
     abbrev h : Hall
     h = hall_in a
@@ -175,7 +175,7 @@ module _ {a : Inside} {v : Play} {i f : ℕ} {x : FutureEntry} {e : SemaphoreEnt
     allowed = to_kept m.meets (λ g. cause_of g (events.End f) ≡ None) (end_allowed v.hall f there)
 
     futures_now : (g : ℕ) → get st'.futures g ≡ cond (f == g) None (get st.futures g)
-    futures_now g = kept-changed a.kept.futures.entries fs' f None gone g
+    futures_now g = kept-changed (futures_in a) fs' f None gone g
 
     room : (registered_in a) - left ≤ sp'
     room = let r = k.room in let l = left_within in omega (arith, r, l, spare)

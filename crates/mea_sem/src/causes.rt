@@ -78,13 +78,13 @@ impl SemFamily {
     pub(crate) fn is_future(&self, f: u64) -> bool
         ensures { result ≡ is_future self.now.hall f }
     {
-        self.futures.contains_key(&f)
+        self.futures.has(f)
     }
 
     fn is_permit(&self, p: u64) -> bool
         ensures { result ≡ is_permit self.now.hall p }
     {
-        self.permits.contains_key(&p)
+        self.permits.has(p)
     }
 
     fn can_merge(&self, p: u64, q: u64) -> bool
@@ -105,7 +105,7 @@ impl SemFamily {
     fn kept_permit(&self, p: u64) -> Option<&PermitEntry>
         ensures { map.get self.now.hall.permits p ≡ option_map permit_of (option_copied result) }
     {
-        self.permits.get(&p)
+        self.permits.get(p)
     }
 }
 

@@ -10,7 +10,7 @@ use crate::actions::Action;
 use crate::entries::{EndedEntry, FutureEntry, PermitEntry, SemaphoreEntry};
 use crate::grant::Grant;
 use mea_base::Ready;
-use mea_by_name::NameHasher;
+use mea_by_name::{ByName, NameHasher};
 use mea_events::SemEvent;
 use mea_family::{Answer, Form, Stop};
 use mea_sem_core::SemCore;
@@ -28,8 +28,8 @@ pub struct SemFamily {
     pub(crate) semaphores: HashMap<u64, SemaphoreEntry, NameHasher>,
     // Those of which nothing is left. Room for each is made when the semaphore is.
     pub(crate) ended: Vec<EndedEntry>,
-    pub(crate) futures: HashMap<u64, FutureEntry, NameHasher>,
-    pub(crate) permits: HashMap<u64, PermitEntry, NameHasher>,
+    pub(crate) futures: ByName<FutureEntry>,
+    pub(crate) permits: ByName<PermitEntry>,
     // The least number that the next event may have, which may be 2^64.
     pub(crate) next: u128,
 }
@@ -42,12 +42,13 @@ impl Model for SemFamily {
 
     ghost coded = { part_code model.hall_code };
 
+    ghost use Rattle.std.specs.FinMap.{entries};
     ghost use Rattle.mea_sem.specs.Store.{store_of, with_ended, hall_of};
     ghost use Rattle.mea_sem.specs.Kept.{AreKept};
 
-    ghost view = { λ a. record { hall = hall_of (store_of (with_ended a.semaphores.entries a.ended.items) a.futures.entries a.permits.entries) a.next; next = a.next } };
+    ghost view = { λ a. record { hall = hall_of (store_of (with_ended a.semaphores.entries a.ended.items) (entries a.futures) (entries a.permits)) a.next; next = a.next } };
 
-    ghost invariant = { λ a. AreKept (store_of (with_ended a.semaphores.entries a.ended.items) a.futures.entries a.permits.entries) a.next };
+    ghost invariant = { λ a. AreKept (store_of (with_ended a.semaphores.entries a.ended.items) (entries a.futures) (entries a.permits)) a.next };
 }
 
 // Written out: a derived one is proved anew in each crate that hands a value of this type to a generic function.
@@ -73,8 +74,8 @@ impl SemFamily {
             alloc,
             semaphores: HashMap::with_hasher(alloc, NameHasher::new()),
             ended: Vec::new(alloc),
-            futures: HashMap::with_hasher(alloc, NameHasher::new()),
-            permits: HashMap::with_hasher(alloc, NameHasher::new()),
+            futures: ByName::new(alloc),
+            permits: ByName::new(alloc),
             next: 0,
         }
     }

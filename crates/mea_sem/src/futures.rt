@@ -71,7 +71,7 @@ impl SemFamily {
             ⊎ ((cause_of self.old.hall (SemEvent.Poll f waker) ≡ None) × (stop ≡ Stop.NoMemory))) }
         ensures err { OnErr result ((self.new ≡ self.old) × (ready.new ≡ ready.old)) }
     {
-        let Some(future) = self.futures.get_mut(&f) else {
+        let Some(future) = self.futures.get_mut(f) else {
             return Err(Stop::Unknown);
         };
         let Some(entry) = self.semaphores.get_mut(&future.semaphore) else {
@@ -82,21 +82,21 @@ impl SemFamily {
             if future.forgets {
                 entry.finish_forgetting(&mut future.acquire, waker, future.plain);
                 let over = entry.is_over();
-                let _future = self.futures.remove(&f);
+                let _future = self.futures.take(f);
                 self.next = number as u128 + 1;
                 self.tidy(semaphore, over);
                 return Ok(Answer::Ready);
             }
             self.permits.insert(number, future.permit())?;
             entry.finish(&mut future.acquire, waker);
-            let _future = self.futures.remove(&f);
+            let _future = self.futures.take(f);
             self.next = number as u128 + 1;
             return Ok(Answer::Ready);
         }
         if entry.core.is_closed() {
             entry.refuse(&mut future.acquire, waker, future.plain);
             let over = entry.is_over();
-            let _future = self.futures.remove(&f);
+            let _future = self.futures.take(f);
             self.next = number as u128 + 1;
             self.tidy(semaphore, over);
             return Ok(Answer::Gone);
@@ -125,7 +125,7 @@ impl SemFamily {
         ensures refused { IfErr result (λ stop. (cause_of self.old.hall (SemEvent.End f) ≡ Some stop) × (stop ≢ Stop.NoMemory)) }
         ensures err { OnErr result ((self.new ≡ self.old) × (ready.new ≡ ready.old)) }
     {
-        let Some(future) = self.futures.remove(&f) else {
+        let Some(future) = self.futures.take(f) else {
             return self.end_permit(number, f, ready);
         };
         let Some(entry) = self.semaphores.get_mut(&future.semaphore) else {

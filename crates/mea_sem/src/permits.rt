@@ -59,7 +59,7 @@ impl SemFamily {
         ensures refused { IfErr result (λ stop. (cause_of self.old.hall (SemEvent.Lose p) ≡ Some stop) × (stop ≢ Stop.NoMemory)) }
         ensures err { OnErr result (self.new ≡ self.old) }
     {
-        let Some(permit) = self.permits.remove(&p) else {
+        let Some(permit) = self.permits.take(p) else {
             return Err(Stop::Unknown);
         };
         let Some(entry) = self.semaphores.get_mut(&permit.semaphore) else {
@@ -82,17 +82,17 @@ impl SemFamily {
         if p == q {
             return Err(Stop::Unknown);
         }
-        let Some(other) = self.permits.get(&q).copied() else {
+        let Some(other) = self.permits.get(q).copied() else {
             return Err(Stop::Unknown);
         };
-        let Some(permit) = self.permits.get_mut(&p) else {
+        let Some(permit) = self.permits.get_mut(p) else {
             return Err(Stop::Unknown);
         };
         if !are_alike(permit, &other) {
             return Err(Stop::Unknown);
         }
         permit.size += other.size;
-        let _other = self.permits.remove(&q);
+        let _other = self.permits.take(q);
         let Some(entry) = self.semaphores.get_mut(&other.semaphore) else {
             unreachable!()
         };
@@ -109,7 +109,7 @@ impl SemFamily {
             ⊎ ((cause_of self.old.hall (SemEvent.Split p n) ≡ None) × (stop ≡ Stop.NoMemory))) }
         ensures err { OnErr result (self.new ≡ self.old) }
     {
-        let Some(permit) = self.permits.get_mut(&p) else {
+        let Some(permit) = self.permits.get_mut(p) else {
             return Err(Stop::Unknown);
         };
         if n as usize > permit.size {
@@ -122,7 +122,7 @@ impl SemFamily {
             ..*permit
         };
         let Ok(_) = self.permits.insert(number, part) else {
-            let Some(permit) = self.permits.get_mut(&p) else {
+            let Some(permit) = self.permits.get_mut(p) else {
                 unreachable!()
             };
             permit.size += n as usize;
@@ -143,7 +143,7 @@ impl SemFamily {
         ensures refused { IfErr result (λ stop. (cause_of self.old.hall (SemEvent.Size p) ≡ Some stop) × (stop ≢ Stop.NoMemory)) }
         ensures err { OnErr result (self.new ≡ self.old) }
     {
-        let Some(permit) = self.permits.get(&p) else {
+        let Some(permit) = self.permits.get(p) else {
             return Err(Stop::Unknown);
         };
         let size = permit.size;
@@ -166,7 +166,7 @@ impl SemFamily {
         ensures refused { IfErr result (λ stop. (cause_of self.old.hall (SemEvent.End p) ≡ Some stop) × (stop ≢ Stop.NoMemory)) }
         ensures err { OnErr result ((self.new ≡ self.old) × (ready.new ≡ ready.old)) }
     {
-        let Some(permit) = self.permits.remove(&p) else {
+        let Some(permit) = self.permits.take(p) else {
             return Err(Stop::Unknown);
         };
         let Some(entry) = self.semaphores.get_mut(&permit.semaphore) else {

@@ -1,6 +1,8 @@
 use Rattle.std.proofs.Common.{inr, Some, inl, refl, rules, sym, ap, ◌∙◌, arith}
 use Rattle.std.specs.Option.{option_copied_mut}
+use Rattle.std.specs.FinMap.{entries}
 use Rattle.mea_base.proofs.Tests.{on_err}
+use Rattle.mea_sem.proofs.Things.{entries_put}
 use Rattle.mea_sem.proofs.Meets.{MeetsSemaphore}
 use Rattle.mea_sem.proofs.Refusals.{unknown_missing, passed}
 use Rattle.mea_sem.proofs.StandingSemaphores.{while_named, once_unnamed, kept_unchanged, seen_unchanged, kept_with_futures, seen_with_futures, plain_fits, things_fit}
@@ -28,13 +30,13 @@ pub invariant_of-self-2 : goal.invariant_of-self-2
 invariant_of-self-2 c =
     own ((acquire_done (met (goal.at.invariant_of-self-2 c).In-Some) _ _ c.args.n c.is_plain-plain.result c.is_forgotten-forgets.result c.count.new.self _ (while_named (met (goal.at.invariant_of-self-2 c).In-Some) c.in_ok-known.ensures.known)
     (beside (alone c.self.inside) _ _ _ ((c.get_mut.follows.holds c.count.new.self).3 (search rules)).0) c.count.ensures
-    c.in_ok-insert.ensures.updates.0 (λ j. record { semaphore = c.args.s; acquire = c.new.ensures j; plain = c.is_plain-plain.result; forgets = c.is_forgotten-forgets.result })).kept)
+    (entries_put _ _ _ _ c.in_ok-insert.ensures.ok) (λ j. record { semaphore = c.args.s; acquire = c.new.ensures j; plain = c.is_plain-plain.result; forgets = c.is_forgotten-forgets.result })).kept)
 
 pub returns-clause-played : goal.returns-clause-played
 returns-clause-played c =
     rw (← c.is_plain-plain.ensures, ← c.is_forgotten-forgets.ensures) ((rests (met (goal.at.returns-clause-played c).In-Some).meets refl (acquire_done (met (goal.at.returns-clause-played c).In-Some) _ _ c.args.n c.is_plain-plain.result c.is_forgotten-forgets.result c.count.new.self _ (while_named (met (goal.at.returns-clause-played c).In-Some) c.in_ok-known.ensures.known)
     (beside (alone c.self.inside) _ _ _ ((c.get_mut.follows.holds c.count.new.self).3 (search rules)).0) c.count.ensures
-    c.in_ok-insert.ensures.updates.0 (λ j. record { semaphore = c.args.s; acquire = c.new.ensures j; plain = c.is_plain-plain.result; forgets = c.is_forgotten-forgets.result }))))
+    (entries_put _ _ _ _ c.in_ok-insert.ensures.ok) (λ j. record { semaphore = c.args.s; acquire = c.new.ensures j; plain = c.is_plain-plain.result; forgets = c.is_forgotten-forgets.result }))))
 
 pub returns-in_err-known-clause-refused : goal.returns-in_err-known-clause-refused
 returns-in_err-known-clause-refused c = passed c.from_residual.result _ _ c.from_residual.ensures.1 (inl (once_unnamed (met (goal.at.returns-in_err-known-clause-refused c).In-Some) _ c.in_err-known.ensures.unknown.0 ∙ ap (λ t. Some t) (sym c.in_err-known.ensures.unknown.1)))
@@ -52,11 +54,11 @@ returns-clause-allowed c = while_named (met (goal.at.returns-clause-allowed c).I
 
 pub invariant_of-self-in_err-insert : goal.invariant_of-self-in_err-insert
 invariant_of-self-in_err-insert c = own (kept_with_futures (met (goal.at.invariant_of-self-in_err-insert c).In-Some) _ c.in-Some.entry.now
-    (beside (alone c.self.inside) _ _ _ ((c.get_mut.follows.holds c.in-Some.entry.now).3 (search rules)).0) _ refl c.in_err-insert.ensures.err)
+    (beside (alone c.self.inside) _ _ _ ((c.get_mut.follows.holds c.in-Some.entry.now).3 (search rules)).0) _ refl (ap entries c.in_err-insert.ensures.err))
 
 pub returns-in_err-insert-clause-err : goal.returns-in_err-insert-clause-err
 returns-in_err-insert-clause-err c = on_err c.from_residual-in_err-insert.result _ (ap part_of (seen_with_futures (met (goal.at.returns-in_err-insert-clause-err c).In-Some) _ c.in-Some.entry.now
-    (beside (alone c.self.inside) _ _ _ ((c.get_mut.follows.holds c.in-Some.entry.now).3 (search rules)).0) _ refl c.in_err-insert.ensures.err))
+    (beside (alone c.self.inside) _ _ _ ((c.get_mut.follows.holds c.in-Some.entry.now).3 (search rules)).0) _ refl (ap entries c.in_err-insert.ensures.err)))
 
 pub returns-in_err-insert-clause-refused : goal.returns-in_err-insert-clause-refused
 returns-in_err-insert-clause-refused c = passed c.from_residual-in_err-insert.result _ _ c.from_residual-in_err-insert.ensures.1

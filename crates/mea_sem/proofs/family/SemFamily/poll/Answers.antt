@@ -1,7 +1,9 @@
 use Rattle.std.proofs.Common.{inr, ◌+◌, Some, None, inl, refl, rules, sym, ap, ◌∙◌, arith}
 use Rattle.std.specs.Option.{option_copied_mut}
+use Rattle.std.specs.FinMap.{entries}
 use Rattle.mea_sem.specs.declared.entries.FutureEntry.{FutureEntry}
 use Rattle.mea_base.proofs.Tests.{on_err}
+use Rattle.mea_sem.proofs.Things.{at-entries, entries_put, entries_gone}
 use Rattle.mea_sem.proofs.Meets.{registered_in, MeetsFuture, kept_as_futures}
 use Rattle.mea_sem.proofs.Refusals.{future_unknown, passed}
 use Rattle.mea_base.proofs.NamedMaps.{changes_twice}
@@ -17,7 +19,7 @@ use Rattle.mea_sem.proofs.family.SemFamily.poll.Goals.{In-Some-get_mut}
 met : (c : In-Some-get_mut) → MeetsFuture (lent c.self.inside c.args.ready.now) (played_with c.args.self.now c.args.ready.now) c.args.number c.args.f c.in-Some.future.now c.in-Some-get_mut.entry.now
 met c = record {
   meets = record { seen = (seen_with c.args.ready.now c.self.view_is); kept = (kept_lent c.self.inside c.args.ready.now c.self.view_is c.self.invariant c.requires.room); least = c.requires.next; low = omega arith };
-  is = sym c.get_mut.ensures.value ∙ ap option_copied_mut c.in-Some.is;
+  is = at-entries _ _ ∙ sym c.get_mut.ensures.value ∙ ap option_copied_mut c.in-Some.is;
   there = living_in (lent c.self.inside c.args.ready.now) _ _ (sym c.get_mut-2.ensures.value ∙ ap option_copied_mut c.in-Some-get_mut.is);
 }
 
@@ -25,11 +27,11 @@ pub invariant_of-self : goal.invariant_of-self
 invariant_of-self c = own (kept_as_futures (lent c.self.inside c.args.ready.now) (kept_lent c.self.inside c.args.ready.now c.self.view_is c.self.invariant c.requires.room) (search rules))
 
 pub returns-in_default-clause-refused : goal.returns-in_default-clause-refused
-returns-in_default-clause-refused c = inl (future_unknown (lent c.self.inside c.args.ready.now) (seen_with c.args.ready.now c.self.view_is) c.args.f (sym c.get_mut.ensures.value ∙ ap option_copied_mut c.in_default.is))
+returns-in_default-clause-refused c = inl (future_unknown (lent c.self.inside c.args.ready.now) (seen_with c.args.ready.now c.self.view_is) c.args.f (at-entries _ _ ∙ sym c.get_mut.ensures.value ∙ ap option_copied_mut c.in_default.is))
 
 pub unreachable-requires : goal.unreachable-requires
 unreachable-requires c =
-    semaphore_living (lent c.self.inside c.args.ready.now) c.args.f (kept_lent c.self.inside c.args.ready.now c.self.view_is c.self.invariant c.requires.room) (sym c.get_mut.ensures.value ∙ ap option_copied_mut c.in-Some.is)
+    semaphore_living (lent c.self.inside c.args.ready.now) c.args.f (kept_lent c.self.inside c.args.ready.now c.self.view_is c.self.invariant c.requires.room) (at-entries _ _ ∙ sym c.get_mut.ensures.value ∙ ap option_copied_mut c.in-Some.is)
     (sym c.get_mut-2.ensures.value ∙ ap option_copied_mut c.in_default-get_mut.is)
 
 pub is_ready-requires : goal.is_ready-requires
@@ -51,7 +53,7 @@ invariant_of-self-then-future c =
     let x2 : FutureEntry = record c.in-Some.future.now { acquire = c.finish_forgetting.new.acquire } in
     own ((forgotten_done (met (goal.at.invariant_of-self-then-future c).In-Some-get_mut) c.args.waker (c.is_ready.ensures.ready c.if-is_ready.true)
     _ _ c.finish_forgetting.new.self
-    (changes_twice c.self.inside.futures.entries _ _ c.args.f (Some x2) None ((c.get_mut.follows.holds x2).3 (search rules)).0 c.remove-future.ensures.updates.0)
+    (changes_twice (entries c.self.inside.futures) _ _ c.args.f (Some x2) None (entries_put _ _ _ x2 refl) (entries_gone _ _ _ c.take-future.ensures.rest))
     (beside (lent c.self.inside c.args.ready.now) _ _ _ ((c.get_mut-2.follows.holds c.finish_forgetting.new.self).3 (search rules)).0)
     c.if-future.true c.finish_forgetting.ensures.is c.finish_forgetting.ensures.rises c.finish_forgetting.ensures.held).kept)
 
@@ -60,7 +62,7 @@ returns-then-future-clause-played c =
     let x2 : FutureEntry = record c.in-Some.future.now { acquire = c.finish_forgetting.new.acquire } in
     listed c.tidy.ensures (lists (met (goal.at.returns-then-future-clause-played c).In-Some-get_mut).meets (forgotten_done (met (goal.at.returns-then-future-clause-played c).In-Some-get_mut) c.args.waker (c.is_ready.ensures.ready c.if-is_ready.true)
     _ _ c.finish_forgetting.new.self
-    (changes_twice c.self.inside.futures.entries _ _ c.args.f (Some x2) None ((c.get_mut.follows.holds x2).3 (search rules)).0 c.remove-future.ensures.updates.0)
+    (changes_twice (entries c.self.inside.futures) _ _ c.args.f (Some x2) None (entries_put _ _ _ x2 refl) (entries_gone _ _ _ c.take-future.ensures.rest))
     (beside (lent c.self.inside c.args.ready.now) _ _ _ ((c.get_mut-2.follows.holds c.finish_forgetting.new.self).3 (search rules)).0)
     c.if-future.true c.finish_forgetting.ensures.is c.finish_forgetting.ensures.rises c.finish_forgetting.ensures.held) refl)
 
@@ -70,7 +72,7 @@ returns-then-future-clause-allowed c = may_poll (met (goal.at.returns-then-futur
 -- ---- it is ready, and becomes a permit
 pub invariant_of-self-in_err-insert : goal.invariant_of-self-in_err-insert
 invariant_of-self-in_err-insert c = own (kept_as_found (met (goal.at.invariant_of-self-in_err-insert c).In-Some-get_mut) _ _ _ c.in-Some-get_mut.entry.now c.in-Some.future.now refl refl
-    c.in_err-insert.ensures.err ((c.get_mut.follows.holds c.in-Some.future.now).3 (search rules)).0
+    (ap entries c.in_err-insert.ensures.err) (entries_put _ _ _ c.in-Some.future.now refl)
     (beside (lent c.self.inside c.args.ready.now) _ _ _ ((c.get_mut-2.follows.holds c.in-Some-get_mut.entry.now).3 (search rules)).0) _ (kept_lent c.self.inside c.args.ready.now c.self.view_is c.self.invariant c.requires.room).room)
 
 pub returns-in_err-insert-clause-refused : goal.returns-in_err-insert-clause-refused
@@ -81,7 +83,7 @@ pub returns-in_err-insert-clause-err : goal.returns-in_err-insert-clause-err
 returns-in_err-insert-clause-err c = on_err c.from_residual.result _ (
   ap part_of (
       seen_as_found (met (goal.at.returns-in_err-insert-clause-err c).In-Some-get_mut) _ _ _ c.in-Some-get_mut.entry.now c.in-Some.future.now refl refl
-      c.in_err-insert.ensures.err ((c.get_mut.follows.holds c.in-Some.future.now).3 (search rules)).0
+      (ap entries c.in_err-insert.ensures.err) (entries_put _ _ _ c.in-Some.future.now refl)
       (beside (lent c.self.inside c.args.ready.now) _ _ _ ((c.get_mut-2.follows.holds c.in-Some-get_mut.entry.now).3 (search rules)).0) _ refl),
   refl,
 )
@@ -91,18 +93,18 @@ invariant_of-self-then-is_ready c =
     let x2 : FutureEntry = record c.in-Some.future.now { acquire = c.finish.new.acquire } in
     own ((kept_done (met (goal.at.invariant_of-self-then-is_ready c).In-Some-get_mut) c.args.waker (c.is_ready.ensures.ready c.if-is_ready.true)
     _ _ c.finish.new.self
-    (changes_twice c.self.inside.futures.entries _ _ c.args.f (Some x2) None ((c.get_mut.follows.holds x2).3 (search rules)).0 c.remove-future-then-is_ready.ensures.updates.0)
+    (changes_twice (entries c.self.inside.futures) _ _ c.args.f (Some x2) None (entries_put _ _ _ x2 refl) (entries_gone _ _ _ c.take-future-then-is_ready.ensures.rest))
     (beside (lent c.self.inside c.args.ready.now) _ _ _ ((c.get_mut-2.follows.holds c.finish.new.self).3 (search rules)).0)
-    c.if-future.false _ c.permit.result c.in_ok-insert.ensures.updates.0 c.permit.ensures c.finish.ensures.is c.finish.ensures.held).kept)
+    c.if-future.false _ c.permit.result (entries_put _ _ _ _ c.in_ok-insert.ensures.ok) c.permit.ensures c.finish.ensures.is c.finish.ensures.held).kept)
 
 pub returns-then-is_ready-clause-played : goal.returns-then-is_ready-clause-played
 returns-then-is_ready-clause-played c =
     let x2 : FutureEntry = record c.in-Some.future.now { acquire = c.finish.new.acquire } in
     (lists (met (goal.at.returns-then-is_ready-clause-played c).In-Some-get_mut).meets (kept_done (met (goal.at.returns-then-is_ready-clause-played c).In-Some-get_mut) c.args.waker (c.is_ready.ensures.ready c.if-is_ready.true)
     _ _ c.finish.new.self
-    (changes_twice c.self.inside.futures.entries _ _ c.args.f (Some x2) None ((c.get_mut.follows.holds x2).3 (search rules)).0 c.remove-future-then-is_ready.ensures.updates.0)
+    (changes_twice (entries c.self.inside.futures) _ _ c.args.f (Some x2) None (entries_put _ _ _ x2 refl) (entries_gone _ _ _ c.take-future-then-is_ready.ensures.rest))
     (beside (lent c.self.inside c.args.ready.now) _ _ _ ((c.get_mut-2.follows.holds c.finish.new.self).3 (search rules)).0)
-    c.if-future.false _ c.permit.result c.in_ok-insert.ensures.updates.0 c.permit.ensures c.finish.ensures.is c.finish.ensures.held) refl)
+    c.if-future.false _ c.permit.result (entries_put _ _ _ _ c.in_ok-insert.ensures.ok) c.permit.ensures c.finish.ensures.is c.finish.ensures.held) refl)
 
 pub returns-then-is_ready-clause-allowed : goal.returns-then-is_ready-clause-allowed
 returns-then-is_ready-clause-allowed c = may_poll (met (goal.at.returns-then-is_ready-clause-allowed c).In-Some-get_mut) c.args.waker
@@ -119,7 +121,7 @@ invariant_of-self-then-is_closed c =
     let x2 : FutureEntry = record c.in-Some.future.now { acquire = c.refuse.new.acquire } in
     own ((refused_done (met (goal.at.invariant_of-self-then-is_closed c).In-Some-get_mut) c.args.waker
     (c.is_ready.ensures.refused c.if-is_ready.false (sym c.is_closed.ensures.is ∙ c.if-is_closed.true)) _ _ c.refuse.new.self
-    (changes_twice c.self.inside.futures.entries _ _ c.args.f (Some x2) None ((c.get_mut.follows.holds x2).3 (search rules)).0 c.remove-future-then-is_closed.ensures.updates.0)
+    (changes_twice (entries c.self.inside.futures) _ _ c.args.f (Some x2) None (entries_put _ _ _ x2 refl) (entries_gone _ _ _ c.take-future-then-is_closed.ensures.rest))
     (beside (lent c.self.inside c.args.ready.now) _ _ _ ((c.get_mut-2.follows.holds c.refuse.new.self).3 (search rules)).0) c.refuse.ensures.is).kept)
 
 pub returns-then-is_closed-clause-played : goal.returns-then-is_closed-clause-played
@@ -127,7 +129,7 @@ returns-then-is_closed-clause-played c =
     let x2 : FutureEntry = record c.in-Some.future.now { acquire = c.refuse.new.acquire } in
     listed c.tidy-then-is_closed.ensures (lists (met (goal.at.returns-then-is_closed-clause-played c).In-Some-get_mut).meets (refused_done (met (goal.at.returns-then-is_closed-clause-played c).In-Some-get_mut) c.args.waker
     (c.is_ready.ensures.refused c.if-is_ready.false (sym c.is_closed.ensures.is ∙ c.if-is_closed.true)) _ _ c.refuse.new.self
-    (changes_twice c.self.inside.futures.entries _ _ c.args.f (Some x2) None ((c.get_mut.follows.holds x2).3 (search rules)).0 c.remove-future-then-is_closed.ensures.updates.0)
+    (changes_twice (entries c.self.inside.futures) _ _ c.args.f (Some x2) None (entries_put _ _ _ x2 refl) (entries_gone _ _ _ c.take-future-then-is_closed.ensures.rest))
     (beside (lent c.self.inside c.args.ready.now) _ _ _ ((c.get_mut-2.follows.holds c.refuse.new.self).3 (search rules)).0) c.refuse.ensures.is) refl)
 
 pub returns-then-is_closed-clause-allowed : goal.returns-then-is_closed-clause-allowed
@@ -138,7 +140,7 @@ pub invariant_of-self-in_err-queue : goal.invariant_of-self-in_err-queue
 invariant_of-self-in_err-queue c =
     let x2 : FutureEntry = record c.in-Some.future.now { acquire = c.queue.new.acquire } in
     own (kept_as_found (met (goal.at.invariant_of-self-in_err-queue c).In-Some-get_mut) _ _ _ c.queue.new.self x2 c.in_err-queue.ensures.err.0
-    (λ j. record c.in-Some.future.now { acquire = c.in_err-queue.ensures.err.1 j }) refl ((c.get_mut.follows.holds x2).3 (search rules)).0
+    (λ j. record c.in-Some.future.now { acquire = c.in_err-queue.ensures.err.1 j }) refl (entries_put _ _ _ x2 refl)
     (beside (lent c.self.inside c.args.ready.now) _ _ _ ((c.get_mut-2.follows.holds c.queue.new.self).3 (search rules)).0) _ (kept_lent c.self.inside c.args.ready.now c.self.view_is c.self.invariant c.requires.room).room)
 
 pub returns-in_err-queue-clause-refused : goal.returns-in_err-queue-clause-refused
@@ -151,7 +153,7 @@ returns-in_err-queue-clause-err c =
     on_err c.from_residual-in_err-queue.result _ (
       ap part_of (
           seen_as_found (met (goal.at.returns-in_err-queue-clause-err c).In-Some-get_mut) _ _ _ c.queue.new.self x2 c.in_err-queue.ensures.err.0
-          (λ j. record c.in-Some.future.now { acquire = c.in_err-queue.ensures.err.1 j }) refl ((c.get_mut.follows.holds x2).3 (search rules)).0
+          (λ j. record c.in-Some.future.now { acquire = c.in_err-queue.ensures.err.1 j }) refl (entries_put _ _ _ x2 refl)
           (beside (lent c.self.inside c.args.ready.now) _ _ _ ((c.get_mut-2.follows.holds c.queue.new.self).3 (search rules)).0) _ refl),
       c.in_err-queue.ensures.err.2,
     )
@@ -164,7 +166,7 @@ invariant_of-self-then-is_new c =
     _ _ c.queue.new.self x2 (c.is_new.ensures.new c.if-is_new.true)
     (c.is_ready.ensures.waits c.if-is_ready.false (sym c.is_closed.ensures.is ∙ c.if-is_closed.false))
     refl refl (omega (arith, (kept_lent c.self.inside c.args.ready.now c.self.view_is c.self.invariant c.requires.room).room))
-    (λ j. record c.in-Some.future.now { acquire = number.2 j }) ((c.get_mut.follows.holds x2).3 (search rules)).0
+    (λ j. record c.in-Some.future.now { acquire = number.2 j }) (entries_put _ _ _ x2 refl)
     (beside (lent c.self.inside c.args.ready.now) _ _ _ ((c.get_mut-2.follows.holds c.queue.new.self).3 (search rules)).0) number.1 c.in_ok-queue.ensures.rest c.in_ok-queue.ensures.held).kept)
 
 pub returns-then-is_new-clause-played : goal.returns-then-is_new-clause-played
@@ -175,7 +177,7 @@ returns-then-is_new-clause-played c =
     _ _ c.queue.new.self x2 (c.is_new.ensures.new c.if-is_new.true)
     (c.is_ready.ensures.waits c.if-is_ready.false (sym c.is_closed.ensures.is ∙ c.if-is_closed.false))
     refl refl (omega (arith, (kept_lent c.self.inside c.args.ready.now c.self.view_is c.self.invariant c.requires.room).room))
-    (λ j. record c.in-Some.future.now { acquire = number.2 j }) ((c.get_mut.follows.holds x2).3 (search rules)).0
+    (λ j. record c.in-Some.future.now { acquire = number.2 j }) (entries_put _ _ _ x2 refl)
     (beside (lent c.self.inside c.args.ready.now) _ _ _ ((c.get_mut-2.follows.holds c.queue.new.self).3 (search rules)).0) number.1 c.in_ok-queue.ensures.rest c.in_ok-queue.ensures.held) (omega arith))
 
 pub returns-then-is_new-clause-allowed : goal.returns-then-is_new-clause-allowed
@@ -187,7 +189,7 @@ invariant_of-self-2 c =
     let x2 : FutureEntry = record c.in-Some.future.now { acquire = c.wait_on.new.acquire } in
     own ((waited_done (met (goal.at.invariant_of-self-2 c).In-Some-get_mut) c.args.waker _ _ c.wait_on.new.self x2 (c.is_new.ensures.polled c.if-is_new.false)
     (c.is_ready.ensures.waits c.if-is_ready.false (sym c.is_closed.ensures.is ∙ c.if-is_closed.false))
-    (λ j. record c.in-Some.future.now { acquire = c.wait_on.ensures.same j }) ((c.get_mut.follows.holds x2).3 (search rules)).0
+    (λ j. record c.in-Some.future.now { acquire = c.wait_on.ensures.same j }) (entries_put _ _ _ x2 refl)
     (beside (lent c.self.inside c.args.ready.now) _ _ _ ((c.get_mut-2.follows.holds c.wait_on.new.self).3 (search rules)).0) c.wait_on.ensures.is c.wait_on.ensures.held).kept)
 
 pub returns-clause-played : goal.returns-clause-played
@@ -195,7 +197,7 @@ returns-clause-played c =
     let x2 : FutureEntry = record c.in-Some.future.now { acquire = c.wait_on.new.acquire } in
     (lists (met (goal.at.returns-clause-played c).In-Some-get_mut).meets (waited_done (met (goal.at.returns-clause-played c).In-Some-get_mut) c.args.waker _ _ c.wait_on.new.self x2 (c.is_new.ensures.polled c.if-is_new.false)
     (c.is_ready.ensures.waits c.if-is_ready.false (sym c.is_closed.ensures.is ∙ c.if-is_closed.false))
-    (λ j. record c.in-Some.future.now { acquire = c.wait_on.ensures.same j }) ((c.get_mut.follows.holds x2).3 (search rules)).0
+    (λ j. record c.in-Some.future.now { acquire = c.wait_on.ensures.same j }) (entries_put _ _ _ x2 refl)
     (beside (lent c.self.inside c.args.ready.now) _ _ _ ((c.get_mut-2.follows.holds c.wait_on.new.self).3 (search rules)).0) c.wait_on.ensures.is c.wait_on.ensures.held) refl)
 
 pub returns-clause-allowed : goal.returns-clause-allowed
