@@ -1,4 +1,5 @@
 ghost use Rattle.std.specs.Prelude.{◌≡◌};
+ghost use Rattle.std.specs.Borrow.{Lends, sem};
 
 use crate::pool::Pool;
 use mea_base::Wake;
@@ -65,9 +66,14 @@ impl<H, T, W> Deref for Leased<H, T, W> {
 }
 
 impl<H, T, W> DerefMut for Leased<H, T, W> {
+    ghost use Rattle.mea_shared_pool.specs.contracts.leased.Leased.{the_row};
+
     ghost deref_mut_gives = { λ lease resource. resource ≡ lease.1 };
 
-    fn deref_mut(&mut self) -> &mut T {
+    fn deref_mut(&mut self) -> &mut T
+        ensures* writes_back { sem 𝓛 (Lends (the_row H.row T.row W.row) T.row self.entry result (λ y. (self.old.0, y))) }
+        ensures value { result.now ≡ self.old.1 }
+    {
         self.lease.resource_mut()
     }
 }

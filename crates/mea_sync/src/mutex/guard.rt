@@ -1,4 +1,5 @@
 ghost use Rattle.std.specs.Prelude.{◌≡◌, refl};
+ghost use Rattle.std.specs.Borrow.{Lends, sem};
 
 use crate::access::{Access, Shows};
 use crate::mapped::Mapped;
@@ -83,9 +84,14 @@ impl<H, T, W> Deref for LockGuard<H, T, W> {
 }
 
 impl<H, T, W> DerefMut for LockGuard<H, T, W> {
+    ghost use Rattle.mea_sync.specs.contracts.mutex.guard.LockGuard.{the_row};
+
     ghost deref_mut_gives = { λ guard value. value ≡ guard.value };
 
-    fn deref_mut(&mut self) -> &mut T {
+    fn deref_mut(&mut self) -> &mut T
+        ensures* writes_back { sem 𝓛 (Lends (the_row H.row T.row W.row) T.row self.entry result (λ y. record self.old { value = y })) }
+        ensures value { result.now ≡ self.old.value }
+    {
         &mut self.value
     }
 }

@@ -1,5 +1,6 @@
 ghost use Rattle.std.specs.Prelude.{◌≡◌, refl, IfOk, IfErr};
 ghost use Rattle.std.specs.Arc.{arc_value};
+ghost use Rattle.std.specs.Borrow.{Lends, sem};
 
 use crate::access::{Access, Downgrades, Shows};
 use crate::made::Made;
@@ -172,9 +173,14 @@ impl<H, T, W> Deref for WriteGuard<H, T, W> {
 }
 
 impl<H, T, W> DerefMut for WriteGuard<H, T, W> {
+    ghost use Rattle.mea_sync.specs.contracts.rwlock.guards.WriteGuard.{the_row};
+
     ghost deref_mut_gives = { λ guard value. value ≡ guard.value };
 
-    fn deref_mut(&mut self) -> &mut T {
+    fn deref_mut(&mut self) -> &mut T
+        ensures* writes_back { sem 𝓛 (Lends (the_row H.row T.row W.row) T.row self.entry result (λ y. record self.old { value = y })) }
+        ensures value { result.now ≡ self.old.value }
+    {
         &mut self.value
     }
 }
