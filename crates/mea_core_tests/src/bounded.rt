@@ -56,7 +56,7 @@ impl Plays for Room {
             Call::TryRecv => Some(Reply::received(self.channel.try_recv())),
             Call::PollRecv(waker) => Some(Reply::heard(self.channel.poll_recv(waker).ok()?)),
             Call::EndSender => Some(sender_ended(&mut self.channel)),
-            Call::EndReceiver => Some(receiver_ended(&mut self.channel)),
+            Call::EndReceiver => Some(Reply::fallen(self.channel.end_receiver_checked())),
             Call::Wake => Some(Reply::found(self.channel.next_wake())),
             Call::WakesReady => Some(Count(self.channel.wakes_ready())),
         }
@@ -93,11 +93,6 @@ fn send_told(channel: &mut Channel, value: u64) -> Reply {
 
 fn sender_ended(channel: &mut Channel) -> Reply {
     channel.end_sender_checked();
-    Done
-}
-
-fn receiver_ended(channel: &mut Channel) -> Reply {
-    channel.end_receiver_checked();
     Done
 }
 
@@ -158,13 +153,40 @@ const SCRIPTS: &[&[(Call, Reply)]] = &[
         (Call::Send(4), Done),
         (Call::PollSend(0, 20), Pending),
         (Call::PollSend(1, 21), Pending),
-        (Call::EndReceiver, Done),
+        (Call::EndReceiver, Count(1)),
         (Call::Wake, Value(20)),
         (Call::Wake, Value(21)),
         (Call::PollSend(0, 22), Closed(3)),
         (Call::PollRecv(12), Disconnected),
         (Call::TrySend(5), Closed(5)),
         (Call::EndSend(1), Value(4)),
+    ],
+    // A receiver that has ended is not ended again: its messages fell once, and all stays as it was, also who is to be woken.
+    &[
+        (Call::TrySend(1), Done),
+        (Call::Send(2), Done),
+        (Call::PollSend(0, 20), Pending),
+        (Call::EndReceiver, Count(1)),
+        (Call::EndReceiver, Nothing),
+        (Call::WakesReady, Count(1)),
+        (Call::Wake, Value(20)),
+        (Call::EndReceiver, Nothing),
+        (Call::WakesReady, Count(0)),
+        (Call::TrySend(3), Closed(3)),
+        (Call::PollSend(0, 21), Closed(2)),
+        (Call::TryRecv, Disconnected),
+    ],
+    // So does the waker of a receiver that waited: the end of the last sender wakes it.
+    &[
+        (Call::PollRecv(10), Pending),
+        (Call::EndReceiver, Count(0)),
+        (Call::EndReceiver, Nothing),
+        (Call::WakesReady, Count(0)),
+        (Call::EndSender, Done),
+        (Call::Wake, Value(10)),
+        (Call::EndReceiver, Nothing),
+        (Call::Wake, Nothing),
+        (Call::PollRecv(11), Disconnected),
     ],
 ];
 

@@ -2,6 +2,7 @@ use mea_base::{NoMemory, Poll, Turn};
 use mea_chan_core::{RecvError, TryRecvError};
 use mea_test_support::Plays;
 use std::alloc::Global;
+use std::collections::VecDeque;
 
 // What a call of a script tells: that it is done, what it gives or hands back, or why it gives nothing.
 #[derive(Clone, Copy, PartialEq, Eq)]
@@ -64,6 +65,14 @@ impl Reply {
             Ok(message) => Reply::Value(message),
             Err(TryRecvError::Empty) => Reply::Empty,
             Err(TryRecvError::Disconnected) => Reply::Disconnected,
+        }
+    }
+
+    // How many messages fall at the end of a receiver, or nothing where it has ended.
+    pub(crate) fn fallen(queued: Option<VecDeque<u64>>) -> Reply {
+        match queued {
+            Some(queued) => Reply::Count(queued.len()),
+            None => Reply::Nothing,
         }
     }
 

@@ -48,10 +48,7 @@ impl Plays for Room {
                 channel.end_sender_checked();
                 Some(Done)
             }
-            Call::EndReceiver => {
-                channel.end_receiver_checked();
-                Some(Done)
-            }
+            Call::EndReceiver => Some(Reply::fallen(channel.end_receiver_checked())),
             Call::Wake => Some(Reply::found(channel.next_wake())),
             Call::WakesReady => Some(Count(channel.wakes_ready())),
         }
@@ -75,7 +72,7 @@ const SCRIPTS: &[&[(Call, Reply)]] = &[
         (Call::Send(2), Done),
         (Call::WakesReady, Count(0)),
         (Call::PollRecv(5), Value(1)),
-        (Call::EndReceiver, Done),
+        (Call::EndReceiver, Count(1)),
         (Call::Send(3), Closed(3)),
         (Call::TryRecv, Disconnected),
     ],
@@ -96,6 +93,27 @@ const SCRIPTS: &[&[(Call, Reply)]] = &[
         (Call::EndSender, Done),
         (Call::Wake, Value(10)),
         (Call::PollRecv(11), Disconnected),
+    ],
+    // A receiver that has ended is not ended again: its messages fell once, and all stays as it was.
+    &[
+        (Call::Send(1), Done),
+        (Call::Send(2), Done),
+        (Call::EndReceiver, Count(2)),
+        (Call::EndReceiver, Nothing),
+        (Call::Send(3), Closed(3)),
+        (Call::TryRecv, Disconnected),
+    ],
+    // So does the waker of a receiver that waited: the end of the last sender wakes it.
+    &[
+        (Call::PollRecv(4), Pending),
+        (Call::EndReceiver, Count(0)),
+        (Call::EndReceiver, Nothing),
+        (Call::WakesReady, Count(0)),
+        (Call::EndSender, Done),
+        (Call::EndReceiver, Nothing),
+        (Call::Wake, Value(4)),
+        (Call::Wake, Nothing),
+        (Call::PollRecv(5), Disconnected),
     ],
 ];
 
