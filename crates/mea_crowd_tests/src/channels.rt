@@ -1,11 +1,11 @@
 //! Those of the crowd who send and receive.
 ghost use Rattle.std.specs.Prelude.{IsSome, IfSome};
 
-use crate::crowd::{Member, Tasks};
-use crate::oneshots::{Answers, Inquires, Oneshots, asking};
+use crate::makes::{Makes, Member};
+use crate::oneshots::Oneshots;
 use crate::patience::Patience;
-use crate::spawns::{Tally, kind, spawn};
 use crate::tasks::Drains;
+use crate::tickets::{Kind, Ticket};
 use futures::task::{Context, Poll};
 use futures::{Future, Sink, Stream, ready};
 use mea::broadcast::overflow;
@@ -22,7 +22,7 @@ use std::sync::atomic::Ordering::SeqCst;
 /// What they did.
 #[derive(Drop)]
 pub(crate) struct Channels {
-    oneshots: Oneshots,
+    pub(crate) oneshots: Oneshots,
     sent: AtomicU64,
     taken: AtomicU64,
     said: AtomicU64,
@@ -51,17 +51,6 @@ impl Channels {
         }
     }
 
-    /// A task that takes what comes from the unbounded channel.
-    pub(crate) fn collecting<'a, R: Wait>(
-        &'a self,
-        stream: Receiving<'a, R, UnboundedReceiver<u64, Bell>, u64>,
-    ) -> Collects<'a, R> {
-        Drains {
-            stream,
-            taken: &self.drained,
-        }
-    }
-
     /// How many oneshots were answered, and how many had an answer.
     pub(crate) fn answers(&self) -> (u64, u64) {
         self.oneshots.counts()
@@ -84,15 +73,6 @@ impl Channels {
     }
 }
 
-/// The ends that those who send are given shares of.
-#[derive(Drop)]
-pub(crate) struct Ends<'a, R: Wait> {
-    pub(crate) sender: &'a BoundedSender<u64, Bell>,
-    pub(crate) senders: Kept<'a, R, WaitGroup<Bell>>,
-    pub(crate) speaker: Kept<'a, R, UnboundedSender<u64, Bell>>,
-    pub(crate) hub: Kept<'a, R, overflow::Sender<u64, Bell>>,
-}
-
 /// A task that sends a message, and has a handle of the group of those who send until it ends.
 #[derive(Drop)]
 pub(crate) struct Posts<'a, R: Wait> {
@@ -100,19 +80,6 @@ pub(crate) struct Posts<'a, R: Wait> {
     is_begun: bool,
     sent: &'a AtomicU64,
     handle: Kept<'a, R, WaitGroup<Bell>>,
-}
-
-impl<'a, R: Wait + AllocGlobal + Abort> Posts<'a, R> {
-    /// One that was never polled.
-    pub(crate) fn new(rt: &'a R, ends: &Ends<'a, R>, channels: &'a Channels) -> Self {
-        let handle = ends.senders.get().clone_handle(rt).expect(rt, "memory");
-        Posts {
-            sink: feed(rt, rt.alloc(), ends.sender).expect(rt, "memory"),
-            is_begun: false,
-            sent: &channels.sent,
-            handle: Kept::new(rt, handle),
-        }
-    }
 }
 
 impl<'a, R: Wait> Future for Posts<'a, R> {
@@ -176,20 +143,62 @@ pub(crate) type TakesAll<'a, R> = Takes<
     Waiting<'a, R, waitgroup::Wait<Bell>, ()>,
 >;
 
-// One that was never polled.
-fn taking<'a, R: Wait + AllocGlobal + Abort>(
-    rt: &'a R,
-    stream: Receiving<'a, R, BoundedReceiver<u64, Bell>, u64>,
-    senders: waitgroup::Wait<Bell>,
-    channels: &'a Channels,
-) -> TakesAll<'a, R>
-    ensures { IfSome result.senders (λ senders. IsSome senders.wait) }
-{
-    let senders = wait(rt, rt.alloc(), senders).expect(rt, "memory");
-    Takes {
-        stream,
-        senders: Some(senders),
-        taken: &channels.taken,
+/// What those who send have a handle of, and what the one who takes has whole.
+#[derive(Drop)]
+pub(crate) struct Ends<'a, R: Wait> {
+    pub(crate) senders: Kept<'a, R, WaitGroup<Bell>>,
+    pub(crate) stream: Receiving<'a, R, BoundedReceiver<u64, Bell>, u64>,
+}
+
+/// Makes those who send to the bounded channel, and after them the one who takes what comes.
+#[derive(Drop)]
+pub(crate) struct Posting<'a, R: Wait> {
+    pub(crate) rt: &'a R,
+    pub(crate) channels: &'a Channels,
+    pub(crate) sender: &'a BoundedSender<u64, Bell>,
+    pub(crate) ends: Option<Ends<'a, R>>,
+}
+
+impl<'a, R: Wait + AllocGlobal + Abort> Posting<'a, R> {
+    // One that sends and was never polled.
+    fn posting(&self) -> Option<Posts<'a, R>> {
+        let rt = self.rt;
+        let channels = self.channels;
+        let ends = self.ends.as_ref()?;
+        let handle = ends.senders.get().clone_handle(rt).expect(rt, "memory");
+        Some(Posts {
+            sink: feed(rt, rt.alloc(), self.sender).expect(rt, "memory"),
+            is_begun: false,
+            sent: &channels.sent,
+            handle: Kept::new(rt, handle),
+        })
+    }
+
+    // The one that takes, and was never polled.
+    fn taking(&mut self) -> Option<TakesAll<'a, R>>
+        ensures { IfSome result (λ t. IfSome t.senders (λ senders. IsSome senders.wait)) }
+    {
+        let rt = self.rt;
+        let channels = self.channels;
+        let Ends { senders, stream } = self.ends.take()?;
+        let senders = senders.into_inner().into_future(rt);
+        let senders = wait(rt, rt.alloc(), senders).expect(rt, "memory");
+        Some(Takes {
+            stream,
+            senders: Some(senders),
+            taken: &channels.taken,
+        })
+    }
+}
+
+impl<'a, R: Wait + AllocGlobal + Abort> Makes<Member<Posts<'a, R>, TakesAll<'a, R>>>
+    for Posting<'a, R> {
+    fn make(&mut self, ticket: Ticket) -> Option<Member<Posts<'a, R>, TakesAll<'a, R>>> {
+        match ticket.kind {
+            Kind::Posts => Some(Member::First(self.posting()?)),
+            Kind::Takes => Some(Member::Other(self.taking()?)),
+            _ => None,
+        }
     }
 }
 
@@ -240,144 +249,92 @@ pub(crate) type Listens<'a, R> = Drains<
     Receiving<'a, R, overflow::Receiver<u64, Bell>, Result<u64, Lagged>>,
 >;
 
-/// A task at an end of a channel.
+/// Makes those who send to the channel without bounds, and the one who takes what comes.
 #[derive(Drop)]
-pub(crate) enum ChannelMember<'a, R: Wait> {
-    Posts(Posts<'a, R>),
-    Takes(TakesAll<'a, R>),
-    Says(Says<'a, R>),
-    Collects(Collects<'a, R>),
-    Tells(Tells<'a, R>),
-    Listens(Listens<'a, R>),
-    Asks(Inquires<'a, R>),
-    Answers(Answers<'a>),
+pub(crate) struct Saying<'a, R: Wait> {
+    pub(crate) rt: &'a R,
+    pub(crate) channels: &'a Channels,
+    pub(crate) speaker: Kept<'a, R, UnboundedSender<u64, Bell>>,
+    pub(crate) stream: Option<Receiving<'a, R, UnboundedReceiver<u64, Bell>, u64>>,
 }
 
-impl<'a, R: Wait> Future for ChannelMember<'a, R> {
-    ghost use Rattle.mea_crowd_tests.specs.declared.channels.ChannelMember.TheVariants.{Posts, Takes, Says, Collects, Tells, Listens, Asks, Answers};
-    ghost use Rattle.std.specs.Prelude.{⊤, IsSome, IfSome};
-
-    type Output = ();
-
-    ghost can_poll = { elim [ Posts p ↦ ⊤ | Takes t ↦ IfSome t.senders (λ senders. IsSome senders.wait) | Says s ↦ ⊤ | Collects d ↦ ⊤ | Tells t ↦ ⊤ | Listens d ↦ ⊤ | Asks a ↦ IsSome a.answer.wait | Answers a ↦ ⊤ ] };
-
-    fn poll(&mut self, cx: &mut Context<'_>) -> Poll<()> {
-        match self {
-            ChannelMember::Posts(task) => task.poll(cx),
-            ChannelMember::Takes(task) => task.poll(cx),
-            ChannelMember::Says(task) => task.poll(cx),
-            ChannelMember::Collects(task) => task.poll(cx),
-            ChannelMember::Tells(task) => task.poll(cx),
-            ChannelMember::Listens(task) => task.poll(cx),
-            ChannelMember::Asks(task) => task.poll(cx),
-            ChannelMember::Answers(task) => task.poll(cx),
+impl<'a, R: Wait + AllocGlobal + Abort> Saying<'a, R> {
+    // One that sends, with a sender of its own.
+    fn saying(&self) -> Says<'a, R> {
+        let rt = self.rt;
+        let channels = self.channels;
+        let speaker = self.speaker.get().clone_handle(rt).expect(rt, "memory");
+        Says {
+            rt,
+            speaker: Kept::new(rt, speaker),
+            said: &channels.said,
         }
     }
 }
 
-// A task that sends a message which never waits, with a sender of its own.
-fn saying<'a, R: Wait + Abort>(
-    rt: &'a R,
-    ends: &Ends<'a, R>,
-    channels: &'a Channels,
-) -> Says<'a, R> {
-    let speaker = ends.speaker.get().clone_handle(rt).expect(rt, "memory");
-    Says {
-        rt,
-        speaker: Kept::new(rt, speaker),
-        said: &channels.said,
+impl<'a, R: Wait + AllocGlobal + Abort> Makes<Member<Says<'a, R>, Collects<'a, R>>>
+    for Saying<'a, R> {
+    fn make(&mut self, ticket: Ticket) -> Option<Member<Says<'a, R>, Collects<'a, R>>> {
+        match ticket.kind {
+            Kind::Says => Some(Member::First(self.saying())),
+            Kind::Collects => {
+                let channels = self.channels;
+                let stream = self.stream.take()?;
+                let taken = &channels.drained;
+                Some(Member::Other(Drains { stream, taken }))
+            }
+            _ => None,
+        }
     }
 }
 
-// A task that sends a message to all, with a sender of its own.
-fn telling<'a, R: Wait + Abort>(
-    rt: &'a R,
-    ends: &Ends<'a, R>,
-    channels: &'a Channels,
-) -> Tells<'a, R> {
-    let hub = ends.hub.get().clone_handle(rt).expect(rt, "memory");
-    Tells {
-        rt,
-        hub: Kept::new(rt, hub),
-        told: &channels.told,
+/// Makes those who tell all, and those who listen.
+#[derive(Drop)]
+pub(crate) struct Telling<'a, R: Wait> {
+    pub(crate) rt: &'a R,
+    pub(crate) channels: &'a Channels,
+    pub(crate) hub: Kept<'a, R, overflow::Sender<u64, Bell>>,
+}
+
+impl<'a, R: Wait + AllocGlobal + Abort> Telling<'a, R> {
+    // One that sends a message to all, with a sender of its own.
+    fn telling(&self) -> Tells<'a, R> {
+        let rt = self.rt;
+        let channels = self.channels;
+        let hub = self.hub.get().clone_handle(rt).expect(rt, "memory");
+        Tells {
+            rt,
+            hub: Kept::new(rt, hub),
+            told: &channels.told,
+        }
+    }
+
+    // One that listens, and hears all that is told from here on where it has patience.
+    fn listening(&self, has_patience: bool) -> Listens<'a, R> {
+        let rt = self.rt;
+        let channels = self.channels;
+        let receiver = self.hub.get().subscribe(rt).expect(rt, "memory");
+        let stream = receive(rt, rt.alloc(), receiver).expect(rt, "memory");
+        let taken = if has_patience {
+            channels.listeners.fetch_add(1, SeqCst);
+            &channels.heard
+        } else {
+            &channels.overheard
+        };
+        Drains { stream, taken }
     }
 }
 
-// A task that listens, and hears all that is told from here on where it has patience.
-fn listening<'a, R: Wait + AllocGlobal + Abort>(
-    rt: &'a R,
-    ends: &Ends<'a, R>,
-    channels: &'a Channels,
-    has_patience: bool,
-) -> Listens<'a, R> {
-    let receiver = ends.hub.get().subscribe(rt).expect(rt, "memory");
-    let stream = receive(rt, rt.alloc(), receiver).expect(rt, "memory");
-    let taken = if has_patience {
-        channels.listeners.fetch_add(1, SeqCst);
-        &channels.heard
-    } else {
-        &channels.overheard
-    };
-    Drains { stream, taken }
-}
-
-/// Spawns the task with this number, that was never polled: of one of five kinds; of a oneshot, both ends.
-pub(crate) fn spawn_channel<'a, R: Wait + AllocGlobal + Abort>(
-    rt: &'a R,
-    tasks: &Tasks<'a, R>,
-    tally: &'a Tally,
-    channels: &'a Channels,
-    ends: &Ends<'a, R>,
-    number: u64,
-    patience: Patience,
-) {
-    let task = match kind(number).0 {
-        9 => ChannelMember::Posts(Posts::new(rt, ends, channels)),
-        10 => ChannelMember::Says(saying(rt, ends, channels)),
-        11 => ChannelMember::Tells(telling(rt, ends, channels)),
-        12 => {
-            let has_patience = patience == Patience::Endless;
-            ChannelMember::Listens(listening(rt, ends, channels, has_patience))
+impl<'a, R: Wait + AllocGlobal + Abort> Makes<Member<Tells<'a, R>, Listens<'a, R>>>
+    for Telling<'a, R> {
+    fn make(&mut self, ticket: Ticket) -> Option<Member<Tells<'a, R>, Listens<'a, R>>> {
+        match ticket.kind {
+            Kind::Tells => Some(Member::First(self.telling())),
+            Kind::Listens => {
+                let has_patience = ticket.patience == Patience::Endless;
+                Some(Member::Other(self.listening(has_patience)))
+            }
+            _ => None,
         }
-        _ => {
-            let (asks, answers) = asking(rt, &channels.oneshots);
-            let patience = Patience::of(number.wrapping_add(1));
-            spawn(
-                rt,
-                tasks,
-                tally,
-                Member::Channels(ChannelMember::Answers(answers)),
-                patience,
-            );
-            ChannelMember::Asks(asks)
-        }
-    };
-    spawn(rt, tasks, tally, Member::Channels(task), patience);
-}
-
-/// Spawns those who take what comes from the two queues.
-pub(crate) fn spawn_takers<'a, R: Wait + AllocGlobal + Abort>(
-    rt: &'a R,
-    tasks: &Tasks<'a, R>,
-    tally: &'a Tally,
-    channels: &'a Channels,
-    stream: Receiving<'a, R, BoundedReceiver<u64, Bell>, u64>,
-    senders: waitgroup::Wait<Bell>,
-    collects: Collects<'a, R>,
-) {
-    let takes = taking(rt, stream, senders, channels);
-    spawn(
-        rt,
-        tasks,
-        tally,
-        Member::Channels(ChannelMember::Takes(takes)),
-        Patience::Endless,
-    );
-    spawn(
-        rt,
-        tasks,
-        tally,
-        Member::Channels(ChannelMember::Collects(collects)),
-        Patience::Endless,
-    );
+    }
 }

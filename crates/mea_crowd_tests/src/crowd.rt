@@ -1,67 +1,29 @@
 //! The crowd: a thousand tasks and more over all primitives, on four threads.
-use crate::channels::{ChannelMember, Channels, Collects, Ends, spawn_channel, spawn_takers};
-use crate::keeps::{KeepMember, Keeps, spawn_keep};
-use crate::locks::{LockMember, Locks, spawn_lock, spawn_tells};
-use crate::meets::{MeetMember, Meets, spawn_meet, spawn_openers};
-use crate::patience::Patience;
-use crate::spawns::{Impatient, Spawns, Tally, kind, on_four_threads};
+//!
+//! It is put together one primitive at a time. Each of the functions below is given what makes the tasks of the one before, and
+//! what makes those of all before that, and is generic in both. It joins them, and hands them on beside what makes its own. So the
+//! proof of each puts the types of its own tasks together, and no others.
+use crate::channels::{Channels, Ends, Posting, Saying, Telling};
+use crate::keeps::{Calling, Filling, Keeps};
+use crate::keyed::{Flying, Mapping};
+use crate::locks::{Acquiring, Adding, Admitting, Boarding, Hearing, Locks};
+use crate::makes::{Both, Makes};
+use crate::meets::{Arriving, Meets, Passing, Stopping};
+use crate::oneshots::Asking;
+use crate::spawns::{Crew, Tally, on_four_threads};
+use crate::tickets::NUMBERS;
 use futures::Future;
-use futures::executor::TaskSet;
-use futures::task::{Context, Poll};
 use futures::test::MockTask;
 use mea::broadcast::overflow;
-use mea::mpsc::{BoundedReceiver, bounded, unbounded};
-use mea::shutdown::{ShutdownRecv, ShutdownSend, new_pair};
+use mea::mpsc::{bounded, unbounded};
+use mea::shutdown::new_pair;
 use mea::waitgroup::WaitGroup;
-use mea_futures::{Bell, Kept, Receiving, receive};
+use mea_futures::{Bell, Kept, receive};
 use std::alloc::{AllocError, AllocGlobal, Global};
 use std::process::Abort;
 use std::random::RandomSource;
 use std::sync::Wait;
 use std::thread::Threads;
-
-/// A task of the crowd, of one of four families.
-#[derive(Drop)]
-pub(crate) enum Member<L, M, C, K> {
-    Locks(L),
-    Meets(M),
-    Channels(C),
-    Keeps(K),
-}
-
-impl<
-    L: Future<Output = ()>,
-    M: Future<Output = ()>,
-    C: Future<Output = ()>,
-    K: Future<Output = ()>,
-> Future for Member<L, M, C, K> {
-    ghost use Rattle.mea_crowd_tests.specs.declared.crowd.Member.TheVariants.{Locks, Meets, Channels, Keeps};
-
-    type Output = ();
-
-    ghost can_poll = { elim [ Locks l ↦ L.can_poll l | Meets m ↦ M.can_poll m | Channels c ↦ C.can_poll c | Keeps k ↦ K.can_poll k ] };
-
-    fn poll(&mut self, cx: &mut Context<'_>) -> Poll<()> {
-        match self {
-            Member::Locks(task) => task.poll(cx),
-            Member::Meets(task) => task.poll(cx),
-            Member::Channels(task) => task.poll(cx),
-            Member::Keeps(task) => task.poll(cx),
-        }
-    }
-}
-
-/// A task of any family.
-pub(crate) type Task<'a, R> = Impatient<
-    'a,
-    Member<LockMember<'a, R>, MeetMember<'a, R>, ChannelMember<'a, R>, KeepMember<'a, R>>,
->;
-
-/// The tasks.
-pub(crate) type Tasks<'a, R> = TaskSet<Task<'a, R>>;
-
-// How many tasks have a number: each but some of a kind that has two ends.
-const NUMBERS: u64 = 1000;
 
 // What the crowd shares.
 #[derive(Drop)]
@@ -86,90 +48,290 @@ impl Place {
     }
 }
 
-// Spawns the task with this number, that was never polled.
-fn spawn_member<'a, R: Wait + AllocGlobal + Abort>(
-    rt: &'a R,
-    tasks: &Tasks<'a, R>,
-    place: &'a Place,
-    ends: &Ends<'a, R>,
-    receiver: &ShutdownRecv<Bell>,
-    number: u64,
-) {
-    let patience = Patience::of(number);
-    let tally = &place.tally;
-    match kind(number).0 {
-        0..=5 => spawn_lock(rt, tasks, tally, &place.locks, number, patience),
-        6..=8 => spawn_meet(rt, tasks, tally, &place.meets, receiver, number, patience),
-        9..=13 => spawn_channel(rt, tasks, tally, &place.channels, ends, number, patience),
-        _ => spawn_keep(rt, tasks, tally, &place.keeps, number, patience),
-    }
+// All who were put together, on four threads.
+fn crowd_of<
+    'a,
+    R: Wait + Threads + Sync + RandomSource + AllocGlobal + Abort,
+    F: Future<Output = ()> + Send,
+    L: Makes<F> + Drop,
+    G: Future<Output = ()> + Send,
+    M: Makes<G> + Drop,
+>(rt: &'a R, place: &'a Place, last: L, others: M) {
+    let crew = Crew {
+        rt,
+        tally: &place.tally,
+        makers: Both { last, others },
+    };
+    on_four_threads(rt, crew);
 }
 
-// The members, and what only one of them has.
-#[derive(Drop)]
-struct Members<'a, R: Wait> {
-    rt: &'a R,
-    place: &'a Place,
-    ends: Ends<'a, R>,
-    stream: Receiving<'a, R, BoundedReceiver<u64, Bell>, u64>,
-    collects: Collects<'a, R>,
-    stopper: &'a ShutdownSend<Bell>,
-    stopped: Kept<'a, R, ShutdownRecv<Bell>>,
+// Those who share what a group computes.
+fn with_flights<
+    'a,
+    R: Wait + Threads + Sync + RandomSource + AllocGlobal + Abort,
+    F: Future<Output = ()> + Send,
+    L: Makes<F> + Drop,
+    G: Future<Output = ()> + Send,
+    M: Makes<G> + Drop,
+>(rt: &'a R, place: &'a Place, last: L, others: M) {
+    let flying = Flying {
+        rt,
+        keeps: &place.keeps,
+    };
+    let others = Both { last, others };
+    crowd_of(rt, place, flying, others);
 }
 
-impl<'a, R: Wait + AllocGlobal + Abort> Spawns<Task<'a, R>> for Members<'a, R> {
-    fn spawn_on(self, tasks: &Tasks<'a, R>) {
-        let Members {
-            rt,
-            place,
-            ends,
-            stream,
-            collects,
-            stopper,
-            stopped,
-        } = self;
-        let tally = &place.tally;
-        for number in 0..NUMBERS {
-            if number == NUMBERS / 2 {
-                spawn_tells(rt, tasks, tally, &place.locks);
-                spawn_openers(rt, tasks, tally, &place.meets, stopper);
-            }
-            spawn_member(rt, tasks, place, &ends, stopped.get(), number);
-        }
-        let senders = ends.senders.into_inner().into_future(rt);
-        spawn_takers(rt, tasks, tally, &place.channels, stream, senders, collects);
-    }
+// Those who want a value of the map.
+fn with_map<
+    'a,
+    R: Wait + Threads + Sync + RandomSource + AllocGlobal + Abort,
+    F: Future<Output = ()> + Send,
+    L: Makes<F> + Drop,
+    G: Future<Output = ()> + Send,
+    M: Makes<G> + Drop,
+>(rt: &'a R, place: &'a Place, last: L, others: M) {
+    let mapping = Mapping {
+        rt,
+        keeps: &place.keeps,
+    };
+    let others = Both { last, others };
+    with_flights(rt, place, mapping, others);
 }
 
-// The tasks on four threads, with a bounded channel of two places, one without bounds, a broadcast and a shutdown.
-fn crowd<R: Wait + Threads + Sync + RandomSource + AllocGlobal + Abort>(rt: &R, place: &Place) {
-    let alloc = rt.alloc();
-    let (sender, receiver) = bounded::<u64, Bell>(alloc, 2).expect(rt, "memory");
-    let sender = Kept::new(rt, sender);
-    let stream = receive(rt, alloc, receiver).expect(rt, "memory");
-    let senders = Kept::new(rt, WaitGroup::new(alloc).expect(rt, "memory"));
-    let (speaker, queue) = unbounded::<u64, Bell>(alloc).expect(rt, "memory");
-    let speaker = Kept::new(rt, speaker);
-    let queue = receive(rt, alloc, queue).expect(rt, "memory");
-    let (hub, listener) = overflow::channel::<u64, Bell>(alloc, 128).expect(rt, "memory");
+// Those who want a call that is made once.
+fn with_once<
+    'a,
+    R: Wait + Threads + Sync + RandomSource + AllocGlobal + Abort,
+    F: Future<Output = ()> + Send,
+    L: Makes<F> + Drop,
+    G: Future<Output = ()> + Send,
+    M: Makes<G> + Drop,
+>(rt: &'a R, place: &'a Place, last: L, others: M) {
+    let calling = Calling {
+        rt,
+        keeps: &place.keeps,
+    };
+    let others = Both { last, others };
+    with_map(rt, place, calling, others);
+}
+
+// Those who want the value of the cell.
+fn with_cell<
+    'a,
+    R: Wait + Threads + Sync + RandomSource + AllocGlobal + Abort,
+    F: Future<Output = ()> + Send,
+    L: Makes<F> + Drop,
+    G: Future<Output = ()> + Send,
+    M: Makes<G> + Drop,
+>(rt: &'a R, place: &'a Place, last: L, others: M) {
+    let filling = Filling {
+        rt,
+        keeps: &place.keeps,
+    };
+    let others = Both { last, others };
+    with_once(rt, place, filling, others);
+}
+
+// Those at the ends of oneshots.
+fn with_oneshots<
+    'a,
+    R: Wait + Threads + Sync + RandomSource + AllocGlobal + Abort,
+    F: Future<Output = ()> + Send,
+    L: Makes<F> + Drop,
+    G: Future<Output = ()> + Send,
+    M: Makes<G> + Drop,
+>(rt: &'a R, place: &'a Place, last: L, others: M) {
+    let asking = Asking {
+        rt,
+        oneshots: &place.channels.oneshots,
+        receiver: None,
+    };
+    let others = Both { last, others };
+    with_cell(rt, place, asking, others);
+}
+
+// Those at a broadcast.
+fn with_broadcast<
+    'a,
+    R: Wait + Threads + Sync + RandomSource + AllocGlobal + Abort,
+    F: Future<Output = ()> + Send,
+    L: Makes<F> + Drop,
+    G: Future<Output = ()> + Send,
+    M: Makes<G> + Drop,
+>(rt: &'a R, place: &'a Place, last: L, others: M) {
+    let (hub, listener) = overflow::channel::<u64, Bell>(rt.alloc(), 128).expect(rt, "memory");
     let hub = Kept::new(rt, hub);
     drop(listener);
-    let (stopper, stopped) = new_pair::<Bell>(alloc).expect(rt, "memory");
-    let members = Members {
+    let telling = Telling {
         rt,
-        place,
-        ends: Ends {
-            sender: sender.get(),
-            senders,
-            speaker,
-            hub,
-        },
-        stream,
-        collects: place.channels.collecting(queue),
-        stopper: &stopper,
-        stopped: Kept::new(rt, stopped),
+        channels: &place.channels,
+        hub,
     };
-    on_four_threads(rt, members);
+    let others = Both { last, others };
+    with_oneshots(rt, place, telling, others);
+}
+
+// Those at a channel without bounds.
+fn with_unbounded<
+    'a,
+    R: Wait + Threads + Sync + RandomSource + AllocGlobal + Abort,
+    F: Future<Output = ()> + Send,
+    L: Makes<F> + Drop,
+    G: Future<Output = ()> + Send,
+    M: Makes<G> + Drop,
+>(rt: &'a R, place: &'a Place, last: L, others: M) {
+    let (speaker, queue) = unbounded::<u64, Bell>(rt.alloc()).expect(rt, "memory");
+    let speaker = Kept::new(rt, speaker);
+    let queue = receive(rt, rt.alloc(), queue).expect(rt, "memory");
+    let saying = Saying {
+        rt,
+        channels: &place.channels,
+        speaker,
+        stream: Some(queue),
+    };
+    let others = Both { last, others };
+    with_broadcast(rt, place, saying, others);
+}
+
+// Those at a channel of two places.
+fn with_bounded<
+    'a,
+    R: Wait + Threads + Sync + RandomSource + AllocGlobal + Abort,
+    F: Future<Output = ()> + Send,
+    L: Makes<F> + Drop,
+    G: Future<Output = ()> + Send,
+    M: Makes<G> + Drop,
+>(rt: &'a R, place: &'a Place, last: L, others: M) {
+    let (sender, receiver) = bounded::<u64, Bell>(rt.alloc(), 2).expect(rt, "memory");
+    let sender = Kept::new(rt, sender);
+    let stream = receive(rt, rt.alloc(), receiver).expect(rt, "memory");
+    let senders = Kept::new(rt, WaitGroup::new(rt.alloc()).expect(rt, "memory"));
+    let posting = Posting {
+        rt,
+        channels: &place.channels,
+        sender: sender.get(),
+        ends: Some(Ends { senders, stream }),
+    };
+    let others = Both { last, others };
+    with_unbounded(rt, place, posting, others);
+}
+
+// Those at a shutdown.
+fn with_shutdown<
+    'a,
+    R: Wait + Threads + Sync + RandomSource + AllocGlobal + Abort,
+    F: Future<Output = ()> + Send,
+    L: Makes<F> + Drop,
+    G: Future<Output = ()> + Send,
+    M: Makes<G> + Drop,
+>(rt: &'a R, place: &'a Place, last: L, others: M) {
+    let (sender, receiver) = new_pair::<Bell>(rt.alloc()).expect(rt, "memory");
+    let stopping = Stopping {
+        rt,
+        sender: &sender,
+        receiver: Kept::new(rt, receiver),
+    };
+    let others = Both { last, others };
+    with_bounded(rt, place, stopping, others);
+}
+
+// Those at the barrier.
+fn with_barrier<
+    'a,
+    R: Wait + Threads + Sync + RandomSource + AllocGlobal + Abort,
+    F: Future<Output = ()> + Send,
+    L: Makes<F> + Drop,
+    G: Future<Output = ()> + Send,
+    M: Makes<G> + Drop,
+>(rt: &'a R, place: &'a Place, last: L, others: M) {
+    let arriving = Arriving {
+        rt,
+        meets: &place.meets,
+    };
+    let others = Both { last, others };
+    with_shutdown(rt, place, arriving, others);
+}
+
+// Those at the latch.
+fn with_latch<
+    'a,
+    R: Wait + Threads + Sync + RandomSource + AllocGlobal + Abort,
+    F: Future<Output = ()> + Send,
+    L: Makes<F> + Drop,
+    G: Future<Output = ()> + Send,
+    M: Makes<G> + Drop,
+>(rt: &'a R, place: &'a Place, last: L, others: M) {
+    let passing = Passing {
+        rt,
+        meets: &place.meets,
+    };
+    let others = Both { last, others };
+    with_barrier(rt, place, passing, others);
+}
+
+// Those at the condition variable.
+fn with_flag<
+    'a,
+    R: Wait + Threads + Sync + RandomSource + AllocGlobal + Abort,
+    F: Future<Output = ()> + Send,
+    L: Makes<F> + Drop,
+    G: Future<Output = ()> + Send,
+    M: Makes<G> + Drop,
+>(rt: &'a R, place: &'a Place, last: L, others: M) {
+    let hearing = Hearing {
+        rt,
+        locks: &place.locks,
+    };
+    let others = Both { last, others };
+    with_latch(rt, place, hearing, others);
+}
+
+// Those at the lock of readers and writers.
+fn with_board<
+    'a,
+    R: Wait + Threads + Sync + RandomSource + AllocGlobal + Abort,
+    F: Future<Output = ()> + Send,
+    L: Makes<F> + Drop,
+    G: Future<Output = ()> + Send,
+    M: Makes<G> + Drop,
+>(rt: &'a R, place: &'a Place, last: L, others: M) {
+    let boarding = Boarding {
+        rt,
+        locks: &place.locks,
+    };
+    let others = Both { last, others };
+    with_flag(rt, place, boarding, others);
+}
+
+// Those at the mutex.
+fn with_sum<
+    'a,
+    R: Wait + Threads + Sync + RandomSource + AllocGlobal + Abort,
+    F: Future<Output = ()> + Send,
+    L: Makes<F> + Drop,
+    G: Future<Output = ()> + Send,
+    M: Makes<G> + Drop,
+>(rt: &'a R, place: &'a Place, last: L, others: M) {
+    let adding = Adding {
+        rt,
+        locks: &place.locks,
+    };
+    let others = Both { last, others };
+    with_board(rt, place, adding, others);
+}
+
+// Those who want a permit of a key, those who want one of the semaphore, and with them all others.
+fn crowd<R: Wait + Threads + Sync + RandomSource + AllocGlobal + Abort>(rt: &R, place: &Place) {
+    let acquiring = Acquiring {
+        rt,
+        locks: &place.locks,
+    };
+    let admitting = Admitting {
+        rt,
+        locks: &place.locks,
+    };
+    with_sum(rt, place, admitting, acquiring);
 }
 
 // A thousand tasks and more, over all primitives, on four threads. Half of them give up, in each stage. Then all have ended, every

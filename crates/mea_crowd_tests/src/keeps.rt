@@ -1,13 +1,9 @@
 //! Those of the crowd who want a value that is computed once.
-use crate::crowd::{Member, Tasks};
-use crate::keyed::{
-    Flies, Flights, Map, Maps, drop_flies, drop_maps, flying, mapping, poll_flies, poll_maps,
-};
-use crate::patience::Patience;
-use crate::spawns::{Tally, kind, spawn};
-use crate::tasks::{Inits, computing, drop_inits, poll_inits};
-use futures::Future;
-use futures::task::{Context, Poll};
+use crate::keyed::{Flights, Map};
+use crate::makes::Makes;
+use crate::tasks::{Inits, computing};
+use crate::tickets::{Kind, Ticket};
+use futures::task::Poll;
 use futures::test::MockTask;
 use mea::once::{CellClaim, CellClaiming, Once, OnceCell, OnceClaim, OnceClaiming};
 use mea::{Claimed, End, ReadyValue, Waits};
@@ -23,12 +19,12 @@ use std::sync::atomic::Ordering::SeqCst;
 pub(crate) struct Keeps {
     cell: OnceCell<u64, Bell>,
     once: Once<Bell>,
-    map: Map,
-    flights: Flights,
+    pub(crate) map: Map,
+    pub(crate) flights: Flights,
     filled: AtomicU64,
     called: AtomicU64,
-    mapped: AtomicU64,
-    flown: AtomicU64,
+    pub(crate) mapped: AtomicU64,
+    pub(crate) flown: AtomicU64,
 }
 
 impl Keeps {
@@ -115,59 +111,40 @@ pub(crate) type Calls<'a, R> = Inits<
     ReadyValue<()>,
 >;
 
-/// A task that waits for what is computed once.
-pub(crate) enum KeepMember<'a, R: Wait> {
-    Fills(Fills<'a, R>),
-    Calls(Calls<'a, R>),
-    Maps(Maps<'a, R>),
-    Flies(Flies<'a, R>),
+/// Makes those who fill the cell.
+#[derive(Drop)]
+pub(crate) struct Filling<'a, R: Wait> {
+    pub(crate) rt: &'a R,
+    pub(crate) keeps: &'a Keeps,
 }
 
-impl<'a, R: Wait> Drop for KeepMember<'a, R> {
-    fn drop(self) {
-        match self {
-            KeepMember::Fills(task) => drop_inits(task),
-            KeepMember::Calls(task) => drop_inits(task),
-            KeepMember::Maps(task) => drop_maps(task),
-            KeepMember::Flies(task) => drop_flies(task),
+impl<'a, R: Wait + AllocGlobal + Abort> Makes<Fills<'a, R>> for Filling<'a, R> {
+    fn make(&mut self, ticket: Ticket) -> Option<Fills<'a, R>> {
+        match ticket.kind {
+            Kind::Fills => {
+                let keeps = self.keeps;
+                Some(computing(self.rt, keeps.cell.claim(), 9, &keeps.filled))
+            }
+            _ => None,
         }
     }
 }
 
-impl<'a, R: Wait> Future for KeepMember<'a, R> {
-    ghost use Rattle.mea_crowd_tests.specs.declared.keeps.KeepMember.TheVariants.{Fills, Calls, Maps, Flies};
-    ghost use Rattle.std.specs.Prelude.{IsSome, IfNone};
-
-    type Output = ();
-
-    ghost can_poll = { elim [ Fills a ↦ IfNone a.awaited.claim (IsSome a.awaited.turn.wait) | Calls a ↦ IfNone a.awaited.claim (IsSome a.awaited.turn.wait) | Maps a ↦ IfNone a.awaited.claim (IsSome a.awaited.turn.wait) | Flies a ↦ IfNone a.awaited.claim (IsSome a.awaited.turn.wait) ] };
-
-    fn poll(&mut self, cx: &mut Context<'_>) -> Poll<()> {
-        match self {
-            KeepMember::Fills(task) => poll_inits(task, cx),
-            KeepMember::Calls(task) => poll_inits(task, cx),
-            KeepMember::Maps(task) => poll_maps(task, cx),
-            KeepMember::Flies(task) => poll_flies(task, cx),
-        }
-    }
+/// Makes those who make the call.
+#[derive(Drop)]
+pub(crate) struct Calling<'a, R: Wait> {
+    pub(crate) rt: &'a R,
+    pub(crate) keeps: &'a Keeps,
 }
 
-/// Spawns the task with this number, that was never polled: of one of four kinds.
-pub(crate) fn spawn_keep<'a, R: Wait + AllocGlobal + Abort>(
-    rt: &'a R,
-    tasks: &Tasks<'a, R>,
-    tally: &'a Tally,
-    keeps: &'a Keeps,
-    number: u64,
-    patience: Patience,
-) {
-    let (kind, nth) = kind(number);
-    let key = nth % 3;
-    let task = match kind {
-        14 => KeepMember::Fills(computing(rt, keeps.cell.claim(), 9, &keeps.filled)),
-        15 => KeepMember::Calls(computing(rt, keeps.once.claim(), (), &keeps.called)),
-        16 => KeepMember::Maps(mapping(rt, &keeps.map, key, &keeps.mapped)),
-        _ => KeepMember::Flies(flying(rt, &keeps.flights, key, &keeps.flown)),
-    };
-    spawn(rt, tasks, tally, Member::Keeps(task), patience);
+impl<'a, R: Wait + AllocGlobal + Abort> Makes<Calls<'a, R>> for Calling<'a, R> {
+    fn make(&mut self, ticket: Ticket) -> Option<Calls<'a, R>> {
+        match ticket.kind {
+            Kind::Calls => {
+                let keeps = self.keeps;
+                Some(computing(self.rt, keeps.once.claim(), (), &keeps.called))
+            }
+            _ => None,
+        }
+    }
 }

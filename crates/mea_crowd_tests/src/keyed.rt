@@ -1,11 +1,11 @@
 //! Those of the crowd who want the value of a key: of a map, or of a group.
-//!
-//! Each is made, polled and dropped by functions of its own, since the proof of each puts a long type together.
-ghost use Rattle.std.specs.Prelude.{◌≡◌, None, IsSome, IfNone};
-ghost use Rattle.futures.specs.Task.{Covers, Keeps};
-ghost use Rattle.futures.specs.Poll.{OnPending};
+ghost use Rattle.std.specs.Prelude.{IsSome, IfNone};
 
-use crate::tasks::{Inits, computing, drop_inits, poll_inits};
+use crate::keeps::Keeps;
+use crate::makes::Makes;
+use crate::tasks::{Inits, computing};
+use crate::tickets::{Kind, Ticket};
+use futures::Future;
 use futures::task::{Context, Poll};
 use mea::once::{MapClaim, MapClaiming, MapFilling, OnceMap};
 use mea::singleflight::{Group, GroupClaim, GroupClaiming, GroupFilling};
@@ -14,7 +14,6 @@ use std::alloc::AllocGlobal;
 use std::hash::{BuildHasherDefault, FoldHasher};
 use std::process::Abort;
 use std::sync::Wait;
-use std::sync::atomic::AtomicU64;
 
 type Hasher = BuildHasherDefault<FoldHasher>;
 
@@ -24,8 +23,7 @@ pub(crate) type Map = OnceMap<u64, u64, Hasher, Bell>;
 /// A group whose calls share a value where they meet.
 pub(crate) type Flights = Group<u64, u64, Hasher, Bell>;
 
-/// One that waits for the value of a key.
-pub(crate) type Maps<'a, R> = Inits<
+type Mapped<'a, R> = Inits<
     'a,
     R,
     MapClaiming<'a, u64, u64, Hasher, Bell>,
@@ -35,8 +33,7 @@ pub(crate) type Maps<'a, R> = Inits<
     MapFilling<'a, u64, u64, Hasher, Bell>,
 >;
 
-/// One that waits for a value which those who come meanwhile share.
-pub(crate) type Flies<'a, R> = Inits<
+type Flown<'a, R> = Inits<
     'a,
     R,
     GroupClaiming<'a, u64, u64, Hasher, Bell>,
@@ -46,56 +43,92 @@ pub(crate) type Flies<'a, R> = Inits<
     GroupFilling<'a, u64, u64, Hasher, Bell>,
 >;
 
-/// One of a map that was never polled, and computes its key.
-pub(crate) fn mapping<'a, R: Wait + AllocGlobal + Abort>(
-    rt: &'a R,
-    map: &'a Map,
-    key: u64,
-    computed: &'a AtomicU64,
-) -> Maps<'a, R>
-    ensures { (result.awaited.claim ≡ None) × IsSome result.awaited.turn.wait }
-{
-    computing(rt, map.claim(key), key, computed)
+/// A task that waits for the value of a key.
+pub(crate) struct Maps<'a, R: Wait> {
+    computing: Mapped<'a, R>,
 }
 
-/// One of a group that was never polled, and computes its key.
-pub(crate) fn flying<'a, R: Wait + AllocGlobal + Abort>(
-    rt: &'a R,
-    flights: &'a Flights,
-    key: u64,
-    computed: &'a AtomicU64,
-) -> Flies<'a, R>
-    ensures { (result.awaited.claim ≡ None) × IsSome result.awaited.turn.wait }
-{
-    computing(rt, flights.claim(key), key, computed)
+// Written out: so whoever holds one finds a drop by its name, and does not take the parts of a map apart.
+impl<'a, R: Wait> Drop for Maps<'a, R> {
+    fn drop(self) {
+        let Maps { computing: _ } = self;
+    }
 }
 
-/// Polls one of a map.
-pub(crate) fn poll_maps<'a, R: Wait>(task: &mut Maps<'a, R>, cx: &mut Context<'_>) -> Poll<()>
-    requires { IfNone task.old.awaited.claim (IsSome task.old.awaited.turn.wait) }
-    ensures again { OnPending result (IfNone task.new.awaited.claim (IsSome task.new.awaited.turn.wait)) }
-    ensures registered { OnPending result (Covers cx.new (λ _. ⊥)) }
-    ensures kept { Keeps cx.old cx.new }
-{
-    poll_inits(task, cx)
+impl<'a, R: Wait> Future for Maps<'a, R> {
+    type Output = ();
+
+    ghost can_poll = { λ m. IfNone m.computing.awaited.claim (IsSome m.computing.awaited.turn.wait) };
+
+    fn poll(&mut self, cx: &mut Context<'_>) -> Poll<()> {
+        self.computing.poll(cx)
+    }
 }
 
-/// Polls one of a group.
-pub(crate) fn poll_flies<'a, R: Wait>(task: &mut Flies<'a, R>, cx: &mut Context<'_>) -> Poll<()>
-    requires { IfNone task.old.awaited.claim (IsSome task.old.awaited.turn.wait) }
-    ensures again { OnPending result (IfNone task.new.awaited.claim (IsSome task.new.awaited.turn.wait)) }
-    ensures registered { OnPending result (Covers cx.new (λ _. ⊥)) }
-    ensures kept { Keeps cx.old cx.new }
-{
-    poll_inits(task, cx)
+/// A task that waits for a value which those who come meanwhile share.
+pub(crate) struct Flies<'a, R: Wait> {
+    computing: Flown<'a, R>,
 }
 
-/// Drops one of a map.
-pub(crate) fn drop_maps<'a, R: Wait>(task: Maps<'a, R>) {
-    drop_inits(task)
+// Written out for the same reason.
+impl<'a, R: Wait> Drop for Flies<'a, R> {
+    fn drop(self) {
+        let Flies { computing: _ } = self;
+    }
 }
 
-/// Drops one of a group.
-pub(crate) fn drop_flies<'a, R: Wait>(task: Flies<'a, R>) {
-    drop_inits(task)
+impl<'a, R: Wait> Future for Flies<'a, R> {
+    type Output = ();
+
+    ghost can_poll = { λ f. IfNone f.computing.awaited.claim (IsSome f.computing.awaited.turn.wait) };
+
+    fn poll(&mut self, cx: &mut Context<'_>) -> Poll<()> {
+        self.computing.poll(cx)
+    }
+}
+
+/// Makes those who compute a key of the map, one of three.
+#[derive(Drop)]
+pub(crate) struct Mapping<'a, R: Wait> {
+    pub(crate) rt: &'a R,
+    pub(crate) keeps: &'a Keeps,
+}
+
+impl<'a, R: Wait + AllocGlobal + Abort> Makes<Maps<'a, R>> for Mapping<'a, R> {
+    fn make(&mut self, ticket: Ticket) -> Option<Maps<'a, R>> {
+        match ticket.kind {
+            Kind::Maps => {
+                let keeps = self.keeps;
+                let key = ticket.nth % 3;
+                let claiming = keeps.map.claim(key);
+                Some(Maps {
+                    computing: computing(self.rt, claiming, key, &keeps.mapped),
+                })
+            }
+            _ => None,
+        }
+    }
+}
+
+/// Makes those who compute a key of the group, one of three.
+#[derive(Drop)]
+pub(crate) struct Flying<'a, R: Wait> {
+    pub(crate) rt: &'a R,
+    pub(crate) keeps: &'a Keeps,
+}
+
+impl<'a, R: Wait + AllocGlobal + Abort> Makes<Flies<'a, R>> for Flying<'a, R> {
+    fn make(&mut self, ticket: Ticket) -> Option<Flies<'a, R>> {
+        match ticket.kind {
+            Kind::Flies => {
+                let keeps = self.keeps;
+                let key = ticket.nth % 3;
+                let claiming = keeps.flights.claim(key);
+                Some(Flies {
+                    computing: computing(self.rt, claiming, key, &keeps.flown),
+                })
+            }
+            _ => None,
+        }
+    }
 }

@@ -15,6 +15,8 @@ mod keyed;
 #[cfg(test)]
 mod locks;
 #[cfg(test)]
+mod makes;
+#[cfg(test)]
 mod meets;
 #[cfg(test)]
 mod oneshots;
@@ -24,3 +26,5 @@ mod patience;
 mod spawns;
 #[cfg(test)]
 mod tasks;
+#[cfg(test)]
+mod tickets;

@@ -1,19 +1,18 @@
 //! Those of the crowd who want a permit or a lock, or wait at a condition variable.
-ghost use Rattle.std.specs.Prelude.{◌≡◌, None, IsSome, IfNone};
+ghost use Rattle.std.specs.Prelude.{IsSome, IfNone};
 
-use crate::crowd::{Member, Tasks};
 use crate::hearing::{Hears, Tells};
-use crate::patience::Patience;
-use crate::spawns::{Tally, kind, spawn};
-use crate::tasks::{Spends, poll_spends, share, using};
+use crate::makes::{Makes, Member};
+use crate::tasks::{Spends, share, using};
+use crate::tickets::{Kind, Ticket};
 use futures::task::{Context, Poll};
 use futures::{Future, ready};
+use mea::End;
 use mea::admission::{FairShare, OwnedFairSharePermit, OwnedShareWait};
 use mea::condvar::Condvar;
 use mea::mutex::{Mutex, OwnedLock, OwnedMutexGuard};
 use mea::rwlock::{OwnedRead, OwnedRwLockReadGuard, OwnedRwLockWriteGuard, OwnedWrite, RwLock};
 use mea::semaphore::{Closed, OwnedAcquire, OwnedSemaphorePermit, Semaphore};
-use mea::{End, PollFault};
 use mea_futures::{Bell, Holding, Kept, TryHolding, wait};
 use std::alloc::{AllocError, AllocGlobal, Global};
 use std::hash::{BuildHasherDefault, FoldHasher};
@@ -91,17 +90,16 @@ fn locked<R: Wait, T: Copy>(rt: &R, mutex: &Mutex<T, Bell>) -> Option<T> {
 
 /// A task that acquires, yields with the permit, and gives it back where it drops what it kept.
 #[derive(Drop)]
-pub(crate) struct Works<'a, F: Future, P> {
-    acquire: F,
-    held: Option<P>,
+pub(crate) struct Acquires<'a, R: Wait> {
+    acquire: TryHolding<'a, R, OwnedAcquire<Bell>, OwnedSemaphorePermit<Bell>, Closed>,
+    held: Option<Kept<'a, R, OwnedSemaphorePermit<Bell>>>,
     worked: &'a AtomicU64,
 }
 
-impl<'a, P: Drop, E: Drop, F: Future<Output = Result<Result<P, E>, PollFault>>> Future
-    for Works<'a, F, P> {
+impl<'a, R: Wait> Future for Acquires<'a, R> {
     type Output = ();
 
-    ghost can_poll = { λ t. IfNone t.held (F.can_poll t.acquire) };
+    ghost can_poll = { λ t. IfNone t.held (IsSome t.acquire.waiting.wait) };
 
     fn poll(&mut self, cx: &mut Context<'_>) -> Poll<()> {
         if self.held.take().is_some() {
@@ -118,23 +116,28 @@ impl<'a, P: Drop, E: Drop, F: Future<Output = Result<Result<P, E>, PollFault>>> 
     }
 }
 
-/// One that has a permit of the semaphore.
-pub(crate) type Acquires<'a, R> = Works<
-    'a,
-    TryHolding<'a, R, OwnedAcquire<Bell>, OwnedSemaphorePermit<Bell>, Closed>,
-    Kept<'a, R, OwnedSemaphorePermit<Bell>>,
->;
+/// Makes those who have one.
+#[derive(Drop)]
+pub(crate) struct Acquiring<'a, R: Wait> {
+    pub(crate) rt: &'a R,
+    pub(crate) locks: &'a Locks,
+}
 
-// One that was never polled.
-fn acquiring<'a, R: Wait + AllocGlobal + Abort>(rt: &'a R, locks: &'a Locks) -> Acquires<'a, R>
-    ensures { (result.held ≡ None) × IsSome result.acquire.waiting.wait }
-{
-    let acquire = share(rt, &locks.semaphore).acquire_owned(1);
-    let waiting = wait(rt, rt.alloc(), acquire).expect(rt, "memory");
-    Works {
-        acquire: waiting.try_holding(),
-        held: None,
-        worked: &locks.worked,
+impl<'a, R: Wait + AllocGlobal + Abort> Makes<Acquires<'a, R>> for Acquiring<'a, R> {
+    fn make(&mut self, ticket: Ticket) -> Option<Acquires<'a, R>> {
+        match ticket.kind {
+            Kind::Acquires => {}
+            _ => return None,
+        }
+        let rt = self.rt;
+        let locks = self.locks;
+        let acquire = share(rt, &locks.semaphore).acquire_owned(1);
+        let waiting = wait(rt, rt.alloc(), acquire).expect(rt, "memory");
+        Some(Acquires {
+            acquire: waiting.try_holding(),
+            held: None,
+            worked: &locks.worked,
+        })
     }
 }
 
@@ -145,22 +148,6 @@ pub(crate) struct Adds<'a, R: Wait> {
     held: Option<Kept<'a, R, OwnedMutexGuard<u64, Bell>>>,
     read: u64,
     added: &'a AtomicU64,
-}
-
-impl<'a, R: Wait + AllocGlobal + Abort> Adds<'a, R> {
-    /// One that was never polled.
-    pub(crate) fn new(rt: &'a R, locks: &'a Locks) -> Self
-        ensures { (result.held ≡ None) × IsSome result.lock.waiting.wait }
-    {
-        let lock = share(rt, &locks.sum).lock_owned();
-        let waiting = wait(rt, rt.alloc(), lock).expect(rt, "memory");
-        Adds {
-            lock: waiting.holding(),
-            held: None,
-            read: 0,
-            added: &locks.added,
-        }
-    }
 }
 
 impl<'a, R: Wait> Future for Adds<'a, R> {
@@ -186,6 +173,32 @@ impl<'a, R: Wait> Future for Adds<'a, R> {
     }
 }
 
+/// Makes those who add.
+#[derive(Drop)]
+pub(crate) struct Adding<'a, R: Wait> {
+    pub(crate) rt: &'a R,
+    pub(crate) locks: &'a Locks,
+}
+
+impl<'a, R: Wait + AllocGlobal + Abort> Makes<Adds<'a, R>> for Adding<'a, R> {
+    fn make(&mut self, ticket: Ticket) -> Option<Adds<'a, R>> {
+        match ticket.kind {
+            Kind::Adds => {}
+            _ => return None,
+        }
+        let rt = self.rt;
+        let locks = self.locks;
+        let lock = share(rt, &locks.sum).lock_owned();
+        let waiting = wait(rt, rt.alloc(), lock).expect(rt, "memory");
+        Some(Adds {
+            lock: waiting.holding(),
+            held: None,
+            read: 0,
+            added: &locks.added,
+        })
+    }
+}
+
 /// One that has a permit of a key.
 pub(crate) type Admits<'a, R> = Spends<
     'a,
@@ -193,6 +206,26 @@ pub(crate) type Admits<'a, R> = Spends<
     OwnedShareWait<u64, Bell, Hasher>,
     OwnedFairSharePermit<u64, Bell, Hasher>,
 >;
+
+/// Makes those who have one, for each of five keys.
+#[derive(Drop)]
+pub(crate) struct Admitting<'a, R: Wait> {
+    pub(crate) rt: &'a R,
+    pub(crate) locks: &'a Locks,
+}
+
+impl<'a, R: Wait + AllocGlobal + Abort> Makes<Admits<'a, R>> for Admitting<'a, R> {
+    fn make(&mut self, ticket: Ticket) -> Option<Admits<'a, R>> {
+        match ticket.kind {
+            Kind::Admits => {}
+            _ => return None,
+        }
+        let rt = self.rt;
+        let locks = self.locks;
+        let turn = share(rt, &locks.share).acquire_owned(ticket.nth % 5);
+        Some(using(rt, turn.expect(rt, "memory")))
+    }
+}
 
 /// One that reads.
 pub(crate) type Reads<'a, R> = Spends<'a, R, OwnedRead<u64, Bell>, OwnedRwLockReadGuard<u64, Bell>>;
@@ -205,79 +238,54 @@ pub(crate) type Writes<'a, R> = Spends<
     OwnedRwLockWriteGuard<u64, Bell>,
 >;
 
-/// A task at permits or a lock.
+/// Makes those who read, and those who are alone.
 #[derive(Drop)]
-pub(crate) enum LockMember<'a, R: Wait> {
-    Acquires(Acquires<'a, R>),
-    Admits(Admits<'a, R>),
-    Adds(Adds<'a, R>),
-    Reads(Reads<'a, R>),
-    Writes(Writes<'a, R>),
-    Hears(Hears<'a, R>),
-    Tells(Tells<'a, R>),
+pub(crate) struct Boarding<'a, R: Wait> {
+    pub(crate) rt: &'a R,
+    pub(crate) locks: &'a Locks,
 }
 
-impl<'a, R: Wait + AllocGlobal + Abort> Future for LockMember<'a, R> {
-    ghost use Rattle.mea_crowd_tests.specs.declared.locks.LockMember.TheVariants.{Acquires, Admits, Adds, Reads, Writes, Hears, Tells};
-    ghost use Rattle.std.specs.Prelude.{IsSome, IfNone, MatchOption};
-
-    type Output = ();
-
-    ghost can_poll = { elim [ Acquires t ↦ IfNone t.held (IsSome t.acquire.waiting.wait) | Admits u ↦ IfNone u.held (IsSome u.turn.waiting.wait) | Adds a ↦ IfNone a.held (IsSome a.lock.waiting.wait) | Reads u ↦ IfNone u.held (IsSome u.turn.waiting.wait) | Writes u ↦ IfNone u.held (IsSome u.turn.waiting.wait) | Hears h ↦ MatchOption h.told (IsSome h.lock.waiting.wait) (λ told. IsSome told.waiting.wait) | Tells t ↦ IsSome t.lock.waiting.wait ] };
-
-    fn poll(&mut self, cx: &mut Context<'_>) -> Poll<()> {
-        match self {
-            LockMember::Acquires(task) => task.poll(cx),
-            LockMember::Admits(task) => poll_spends(task, cx),
-            LockMember::Adds(task) => task.poll(cx),
-            LockMember::Reads(task) => poll_spends(task, cx),
-            LockMember::Writes(task) => poll_spends(task, cx),
-            LockMember::Hears(task) => task.poll(cx),
-            LockMember::Tells(task) => task.poll(cx),
+impl<'a, R: Wait + AllocGlobal + Abort> Makes<Member<Reads<'a, R>, Writes<'a, R>>>
+    for Boarding<'a, R> {
+    fn make(&mut self, ticket: Ticket) -> Option<Member<Reads<'a, R>, Writes<'a, R>>> {
+        let rt = self.rt;
+        let locks = self.locks;
+        match ticket.kind {
+            Kind::Reads => {
+                let board = share(rt, &locks.board);
+                Some(Member::First(using(rt, board.read_owned())))
+            }
+            Kind::Writes => {
+                let board = share(rt, &locks.board);
+                Some(Member::Other(using(rt, board.write_owned())))
+            }
+            _ => None,
         }
     }
 }
 
-/// Spawns the task with this number, that was never polled: of one of six kinds.
-pub(crate) fn spawn_lock<'a, R: Wait + AllocGlobal + Abort>(
-    rt: &'a R,
-    tasks: &Tasks<'a, R>,
-    tally: &'a Tally,
-    locks: &'a Locks,
-    number: u64,
-    patience: Patience,
-) {
-    let (kind, nth) = kind(number);
-    let task = match kind {
-        0 => LockMember::Acquires(acquiring(rt, locks)),
-        1 => {
-            let turn = share(rt, &locks.share).acquire_owned(nth % 5);
-            LockMember::Admits(using(rt, turn.expect(rt, "memory")))
-        }
-        2 => LockMember::Adds(Adds::new(rt, locks)),
-        3 => LockMember::Reads(using(rt, share(rt, &locks.board).read_owned())),
-        4 => LockMember::Writes(using(rt, share(rt, &locks.board).write_owned())),
-        _ => {
-            let flag = share(rt, &locks.flag);
-            LockMember::Hears(Hears::new(rt, &locks.condvar, flag, &locks.heard))
-        }
-    };
-    spawn(rt, tasks, tally, Member::Locks(task), patience);
+/// Makes those who wait for the flag, and the one who sets it.
+#[derive(Drop)]
+pub(crate) struct Hearing<'a, R: Wait> {
+    pub(crate) rt: &'a R,
+    pub(crate) locks: &'a Locks,
 }
 
-/// Spawns the one that sets the flag.
-pub(crate) fn spawn_tells<'a, R: Wait + AllocGlobal + Abort>(
-    rt: &'a R,
-    tasks: &Tasks<'a, R>,
-    tally: &'a Tally,
-    locks: &'a Locks,
-) {
-    let tells = Tells::new(rt, &locks.condvar, share(rt, &locks.flag));
-    spawn(
-        rt,
-        tasks,
-        tally,
-        Member::Locks(LockMember::Tells(tells)),
-        Patience::Endless,
-    );
+impl<'a, R: Wait + AllocGlobal + Abort> Makes<Member<Hears<'a, R>, Tells<'a, R>>>
+    for Hearing<'a, R> {
+    fn make(&mut self, ticket: Ticket) -> Option<Member<Hears<'a, R>, Tells<'a, R>>> {
+        let rt = self.rt;
+        let locks = self.locks;
+        match ticket.kind {
+            Kind::Hears => {
+                let flag = share(rt, &locks.flag);
+                Some(Member::First(Hears::new(rt, &locks.condvar, flag, &locks.heard)))
+            }
+            Kind::Notifies => {
+                let flag = share(rt, &locks.flag);
+                Some(Member::Other(Tells::new(rt, &locks.condvar, flag)))
+            }
+            _ => None,
+        }
+    }
 }

@@ -1,10 +1,9 @@
 //! Those of the crowd who meet: at a latch, at a barrier, and at a shutdown.
 ghost use Rattle.std.specs.Prelude.{IsSome};
 
-use crate::crowd::{Member, Tasks};
-use crate::patience::Patience;
-use crate::spawns::{ARRIVES, Tally, kind, spawn};
+use crate::makes::{Makes, Member};
 use crate::tasks::{Awaits, share};
+use crate::tickets::{Kind, Ticket};
 use futures::Future;
 use futures::task::{Context, Poll};
 use mea::barrier::{Barrier, BarrierWait, BarrierWaitResult};
@@ -31,7 +30,7 @@ pub(crate) struct Meets {
 fn arrivals(numbers: u64) -> u32 {
     let mut arrivals = 0u32;
     for number in 0..numbers {
-        if kind(number).0 == ARRIVES && !Patience::of(number).is_gone() {
+        if Ticket::of(number).arrives() {
             arrivals = arrivals.saturating_add(1);
         }
     }
@@ -115,15 +114,15 @@ pub(crate) type Arrives<'a, R> = Gathers<
 
 /// A task that stops where it is asked to, and has a handle of the shutdown until it ends.
 #[derive(Drop)]
-pub(crate) struct Obeys<F: Future, H> {
-    signal: F,
-    receiver: H,
+pub(crate) struct Stops<'a, R: Wait> {
+    signal: Waiting<'a, R, OwnedSignal<Bell>, ()>,
+    receiver: Kept<'a, R, ShutdownRecv<Bell>>,
 }
 
-impl<O: Drop, F: Future<Output = O>, H: Drop> Future for Obeys<F, H> {
+impl<'a, R: Wait> Future for Stops<'a, R> {
     type Output = ();
 
-    ghost can_poll = { λ s. F.can_poll s.signal };
+    ghost can_poll = { λ s. IsSome s.signal.wait };
 
     fn poll(&mut self, cx: &mut Context<'_>) -> Poll<()> {
         match self.signal.poll(cx) {
@@ -132,12 +131,6 @@ impl<O: Drop, F: Future<Output = O>, H: Drop> Future for Obeys<F, H> {
         }
     }
 }
-
-/// One that waits for the signal.
-pub(crate) type Stops<'a, R> = Obeys<
-    Waiting<'a, R, OwnedSignal<Bell>, ()>,
-    Kept<'a, R, ShutdownRecv<Bell>>,
->;
 
 /// A task that asks for the shutdown, and waits for all who stop.
 #[derive(Drop)]
@@ -164,125 +157,106 @@ impl<'a, R: Wait, O: Drop, F: Future<Output = O>> Future for Asks<'a, R, F> {
 /// One that waits for them.
 pub(crate) type Shuts<'a, R> = Asks<'a, R, Waiting<'a, R, shutdown::Wait<Bell>, ()>>;
 
-/// A task at a place where others are met.
+/// Makes those who wait at the latch, and the one who opens it.
 #[derive(Drop)]
-pub(crate) enum MeetMember<'a, R: Wait> {
-    Passes(Passes<'a, R>),
-    Opens(Opens<'a, R>),
-    Arrives(Arrives<'a, R>),
-    Stops(Stops<'a, R>),
-    Shuts(Shuts<'a, R>),
+pub(crate) struct Passing<'a, R: Wait> {
+    pub(crate) rt: &'a R,
+    pub(crate) meets: &'a Meets,
 }
 
-impl<'a, R: Wait> Future for MeetMember<'a, R> {
-    ghost use Rattle.mea_crowd_tests.specs.declared.meets.MeetMember.TheVariants.{Passes, Opens, Arrives, Stops, Shuts};
-    ghost use Rattle.std.specs.Prelude.{⊤, IsSome};
-
-    type Output = ();
-
-    ghost can_poll = { elim [ Passes a ↦ IsSome a.awaited.wait | Opens o ↦ ⊤ | Arrives a ↦ IsSome a.waiting.wait | Stops s ↦ IsSome s.signal.wait | Shuts s ↦ IsSome s.ended.wait ] };
-
-    fn poll(&mut self, cx: &mut Context<'_>) -> Poll<()> {
-        match self {
-            MeetMember::Passes(task) => task.poll(cx),
-            MeetMember::Opens(task) => task.poll(cx),
-            MeetMember::Arrives(task) => task.poll(cx),
-            MeetMember::Stops(task) => task.poll(cx),
-            MeetMember::Shuts(task) => task.poll(cx),
+impl<'a, R: Wait + AllocGlobal + Abort> Passing<'a, R> {
+    // One that waits and was never polled.
+    fn passing(&self) -> Passes<'a, R>
+        ensures { IsSome result.awaited.wait }
+    {
+        let rt = self.rt;
+        let passed = share(rt, &self.meets.latch).wait_owned();
+        Awaits {
+            awaited: wait(rt, rt.alloc(), passed).expect(rt, "memory"),
         }
     }
 }
 
-// A task that waits for the latch and was never polled.
-fn passing<'a, R: Wait + AllocGlobal + Abort>(rt: &'a R, meets: &Meets) -> Passes<'a, R>
-    ensures { IsSome result.awaited.wait }
-{
-    let passed = share(rt, &meets.latch).wait_owned();
-    Awaits {
-        awaited: wait(rt, rt.alloc(), passed).expect(rt, "memory"),
+impl<'a, R: Wait + AllocGlobal + Abort> Makes<Member<Passes<'a, R>, Opens<'a, R>>>
+    for Passing<'a, R> {
+    fn make(&mut self, ticket: Ticket) -> Option<Member<Passes<'a, R>, Opens<'a, R>>> {
+        match ticket.kind {
+            Kind::Passes => Some(Member::First(self.passing())),
+            Kind::Opens => {
+                let rt = self.rt;
+                let meets = self.meets;
+                let latch = &*meets.latch;
+                Some(Member::Other(Opens { rt, latch }))
+            }
+            _ => None,
+        }
     }
 }
 
-// A task that meets others and was never polled.
-fn arriving<'a, R: Wait + AllocGlobal + Abort>(rt: &'a R, meets: &'a Meets) -> Arrives<'a, R>
-    ensures { IsSome result.waiting.wait }
-{
-    Gathers {
-        waiting: wait(rt, rt.alloc(), meets.barrier.wait()).expect(rt, "memory"),
-        met: &meets.met,
-        led: &meets.led,
+/// Makes those who meet at the barrier.
+#[derive(Drop)]
+pub(crate) struct Arriving<'a, R: Wait> {
+    pub(crate) rt: &'a R,
+    pub(crate) meets: &'a Meets,
+}
+
+impl<'a, R: Wait + AllocGlobal + Abort> Makes<Arrives<'a, R>> for Arriving<'a, R> {
+    fn make(&mut self, ticket: Ticket) -> Option<Arrives<'a, R>> {
+        match ticket.kind {
+            Kind::Arrives => {}
+            _ => return None,
+        }
+        let rt = self.rt;
+        let meets = self.meets;
+        let waiting = wait(rt, rt.alloc(), meets.barrier.wait()).expect(rt, "memory");
+        Some(Gathers {
+            waiting,
+            met: &meets.met,
+            led: &meets.led,
+        })
     }
 }
 
-// A task that stops where it is asked to and was never polled.
-fn stopping<'a, R: Wait + AllocGlobal + Abort>(
-    rt: &'a R,
-    receiver: &ShutdownRecv<Bell>,
-) -> Stops<'a, R>
-    ensures { IsSome result.signal.wait }
-{
-    let receiver = receiver.clone_handle(rt).expect(rt, "memory");
-    let receiver = Kept::new(rt, receiver);
-    let signal = receiver.get().is_shutdown_owned().expect(rt, "memory");
-    let signal = wait(rt, rt.alloc(), signal).expect(rt, "memory");
-    Obeys { signal, receiver }
+/// Makes those who stop where they are asked to, and the one who asks.
+#[derive(Drop)]
+pub(crate) struct Stopping<'a, R: Wait> {
+    pub(crate) rt: &'a R,
+    pub(crate) sender: &'a ShutdownSend<Bell>,
+    pub(crate) receiver: Kept<'a, R, ShutdownRecv<Bell>>,
 }
 
-// A task that asks for the shutdown and was never polled.
-fn shutting<'a, R: Wait + AllocGlobal + Abort>(
-    rt: &'a R,
-    sender: &'a ShutdownSend<Bell>,
-) -> Shuts<'a, R>
-    ensures { IsSome result.ended.wait }
-{
-    let ended = sender.clone_handle().expect(rt, "memory").await_shutdown();
-    let ended = wait(rt, rt.alloc(), ended).expect(rt, "memory");
-    Asks { rt, sender, ended }
+impl<'a, R: Wait + AllocGlobal + Abort> Stopping<'a, R> {
+    // One that stops and was never polled.
+    fn stopping(&self) -> Stops<'a, R>
+        ensures { IsSome result.signal.wait }
+    {
+        let rt = self.rt;
+        let receiver = self.receiver.get().clone_handle(rt).expect(rt, "memory");
+        let receiver = Kept::new(rt, receiver);
+        let signal = receiver.get().is_shutdown_owned().expect(rt, "memory");
+        let signal = wait(rt, rt.alloc(), signal).expect(rt, "memory");
+        Stops { signal, receiver }
+    }
+
+    // One that asks and was never polled.
+    fn shutting(&self) -> Shuts<'a, R>
+        ensures { IsSome result.ended.wait }
+    {
+        let rt = self.rt;
+        let sender = self.sender;
+        let ended = sender.clone_handle().expect(rt, "memory").await_shutdown();
+        let ended = wait(rt, rt.alloc(), ended).expect(rt, "memory");
+        Asks { rt, sender, ended }
+    }
 }
 
-/// Spawns the task with this number, that was never polled: of one of three kinds.
-pub(crate) fn spawn_meet<'a, R: Wait + AllocGlobal + Abort>(
-    rt: &'a R,
-    tasks: &Tasks<'a, R>,
-    tally: &'a Tally,
-    meets: &'a Meets,
-    receiver: &ShutdownRecv<Bell>,
-    number: u64,
-    patience: Patience,
-) {
-    let task = match kind(number).0 {
-        6 => MeetMember::Passes(passing(rt, meets)),
-        ARRIVES => MeetMember::Arrives(arriving(rt, meets)),
-        _ => MeetMember::Stops(stopping(rt, receiver)),
-    };
-    spawn(rt, tasks, tally, Member::Meets(task), patience);
-}
-
-/// Spawns those who open the latch and ask for the shutdown.
-pub(crate) fn spawn_openers<'a, R: Wait + AllocGlobal + Abort>(
-    rt: &'a R,
-    tasks: &Tasks<'a, R>,
-    tally: &'a Tally,
-    meets: &'a Meets,
-    sender: &'a ShutdownSend<Bell>,
-) {
-    let opens = Opens {
-        rt,
-        latch: &*meets.latch,
-    };
-    spawn(
-        rt,
-        tasks,
-        tally,
-        Member::Meets(MeetMember::Opens(opens)),
-        Patience::Endless,
-    );
-    let shuts = shutting(rt, sender);
-    spawn(
-        rt,
-        tasks,
-        tally,
-        Member::Meets(MeetMember::Shuts(shuts)),
-        Patience::Endless,
-    );
+impl<'a, R: Wait + AllocGlobal + Abort> Makes<Member<Stops<'a, R>, Shuts<'a, R>>>
+    for Stopping<'a, R> {
+    fn make(&mut self, ticket: Ticket) -> Option<Member<Stops<'a, R>, Shuts<'a, R>>> {
+        match ticket.kind {
+            Kind::Stops => Some(Member::First(self.stopping())),
+            Kind::Shuts => Some(Member::Other(self.shutting())),
+            _ => None,
+        }
+    }
 }

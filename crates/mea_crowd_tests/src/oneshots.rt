@@ -1,10 +1,12 @@
 //! Those of the crowd who have an end of a oneshot.
-ghost use Rattle.std.specs.Prelude.{IsSome};
+ghost use Rattle.std.specs.Prelude.{IsSome, IfSome};
 
+use crate::makes::{Makes, Member};
+use crate::tickets::{Kind, Ticket};
 use futures::Future;
 use futures::task::{Context, Poll};
 use mea::PollFault;
-use mea::oneshot::{Plain, RecvError, Sender, channel};
+use mea::oneshot::{Plain, Receiver, RecvError, Sender, channel};
 use mea_futures::{Bell, MessageWait, Waiting, wait};
 use std::alloc::AllocGlobal;
 use std::process::Abort;
@@ -97,22 +99,50 @@ pub(crate) type Inquires<'a, R> = Asks<
     Waiting<'a, R, MessageWait<Plain<u64>>, Result<Plain<u64>, RecvError>>,
 >;
 
-/// The two ends of a oneshot, as tasks that were never polled.
-pub(crate) fn asking<'a, R: Wait + AllocGlobal + Abort>(
-    rt: &'a R,
-    oneshots: &'a Oneshots,
-) -> (Inquires<'a, R>, Answers<'a>)
-    ensures { IsSome result.0.answer.wait }
-{
-    let (sender, receiver) = channel::<Plain<u64>, Bell>(rt.alloc()).expect(rt, "memory");
-    let answers = Answers {
-        sender: Some(sender),
-        answered: &oneshots.answered,
-    };
-    let answer = wait(rt, rt.alloc(), MessageWait::new(receiver)).expect(rt, "memory");
-    let asks = Asks {
-        answer,
-        got: &oneshots.got,
-    };
-    (asks, answers)
+/// Makes those who answer, and for each of them, once it is made, the one who asks.
+#[derive(Drop)]
+pub(crate) struct Asking<'a, R: Wait> {
+    pub(crate) rt: &'a R,
+    pub(crate) oneshots: &'a Oneshots,
+    // Of the last oneshot that was made, until there is one who asks by it.
+    pub(crate) receiver: Option<Receiver<Plain<u64>, Bell>>,
+}
+
+impl<'a, R: Wait + AllocGlobal + Abort> Asking<'a, R> {
+    // One that answers, of a further oneshot.
+    fn answering(&mut self) -> Answers<'a> {
+        let oneshots = self.oneshots;
+        let ends = channel::<Plain<u64>, Bell>(self.rt.alloc());
+        let (sender, receiver) = ends.expect(self.rt, "memory");
+        self.receiver = Some(receiver);
+        Answers {
+            sender: Some(sender),
+            answered: &oneshots.answered,
+        }
+    }
+
+    // The one that asks by this oneshot, and was never polled.
+    fn asking(&mut self) -> Option<Inquires<'a, R>>
+        ensures { IfSome result (λ a. IsSome a.answer.wait) }
+    {
+        let rt = self.rt;
+        let oneshots = self.oneshots;
+        let message = MessageWait::new(self.receiver.take()?);
+        let answer = wait(rt, rt.alloc(), message).expect(rt, "memory");
+        Some(Asks {
+            answer,
+            got: &oneshots.got,
+        })
+    }
+}
+
+impl<'a, R: Wait + AllocGlobal + Abort> Makes<Member<Inquires<'a, R>, Answers<'a>>>
+    for Asking<'a, R> {
+    fn make(&mut self, ticket: Ticket) -> Option<Member<Inquires<'a, R>, Answers<'a>>> {
+        match ticket.kind {
+            Kind::Asks => Some(Member::First(self.asking()?)),
+            Kind::Answers => Some(Member::Other(self.answering())),
+            _ => None,
+        }
+    }
 }

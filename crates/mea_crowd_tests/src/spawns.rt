@@ -1,5 +1,7 @@
 //! A set of tasks on four threads, and a task that may be given up.
+use crate::makes::Makes;
 use crate::patience::Patience;
+use crate::tickets::{Kind, NUMBERS, Ticket};
 use futures::Future;
 use futures::executor::TaskSet;
 use futures::task::{Context, Doorbell, Poll};
@@ -34,17 +36,6 @@ impl Tally {
     }
 }
 
-// How many kinds of task have a number.
-const KINDS: u64 = 18;
-
-/// Of which kind the task with this number is, and how many of its kind have a lower number.
-pub(crate) fn kind(number: u64) -> (u64, u64) {
-    (number % KINDS, number / KINDS)
-}
-
-/// The kind that meets at the barrier.
-pub(crate) const ARRIVES: u64 = 7;
-
 /// A task that is given up where its patience has gone.
 #[derive(Drop)]
 pub(crate) struct Impatient<'a, F: Future> {
@@ -72,28 +63,82 @@ impl<'a, F: Future<Output = ()>> Future for Impatient<'a, F> {
     }
 }
 
-/// Spawns a task with this much patience.
-pub(crate) fn spawn<'a, R: Abort, F: Future<Output = ()>>(
+// Spawns the task that is wanted.
+fn spawn<'a, R: Abort, F: Future<Output = ()>, M: Makes<F>>(
     rt: &R,
     tasks: &TaskSet<Impatient<'a, F>>,
     tally: &'a Tally,
-    task: F,
-    patience: Patience,
-)
-    requires { F.can_poll task }
-{
+    makers: &mut M,
+    ticket: Ticket,
+) {
+    let task = makers.make(ticket).expect(rt, "one who makes it");
     let impatient = Impatient {
         task,
-        patience,
+        patience: ticket.patience,
         tally,
     };
     assert!(rt; tasks.spawn(impatient).is_ok());
     tally.spawned.fetch_add(1, SeqCst);
 }
 
+// Spawns the task with this number; of a oneshot, both ends.
+fn spawn_numbered<'a, R: Abort, F: Future<Output = ()>, M: Makes<F>>(
+    rt: &R,
+    tasks: &TaskSet<Impatient<'a, F>>,
+    tally: &'a Tally,
+    makers: &mut M,
+    number: u64,
+) {
+    let ticket = Ticket::of(number);
+    if ticket.asks() {
+        spawn(rt, tasks, tally, makers, Ticket::answering(number));
+    }
+    spawn(rt, tasks, tally, makers, ticket);
+}
+
+// Spawns those who set the flag, open the latch and ask for the shutdown.
+fn spawn_openers<'a, R: Abort, F: Future<Output = ()>, M: Makes<F>>(
+    rt: &R,
+    tasks: &TaskSet<Impatient<'a, F>>,
+    tally: &'a Tally,
+    makers: &mut M,
+) {
+    spawn(rt, tasks, tally, makers, Ticket::alone(Kind::Notifies));
+    spawn(rt, tasks, tally, makers, Ticket::alone(Kind::Opens));
+    spawn(rt, tasks, tally, makers, Ticket::alone(Kind::Shuts));
+}
+
 /// What tasks a set is given.
 pub(crate) trait Spawns<F: Future> {
     fn spawn_on(self, tasks: &TaskSet<F>);
+}
+
+/// All who make tasks, and the tally of what they make.
+#[derive(Drop)]
+pub(crate) struct Crew<'a, R: Abort, M> {
+    pub(crate) rt: &'a R,
+    pub(crate) tally: &'a Tally,
+    pub(crate) makers: M,
+}
+
+impl<'a, R: Abort, F: Future<Output = ()>, M: Makes<F> + Drop> Spawns<Impatient<'a, F>>
+    for Crew<'a, R, M> {
+    fn spawn_on(self, tasks: &TaskSet<Impatient<'a, F>>) {
+        let Crew {
+            rt,
+            tally,
+            mut makers,
+        } = self;
+        for number in 0..NUMBERS {
+            if number == NUMBERS / 2 {
+                spawn_openers(rt, tasks, tally, &mut makers);
+            }
+            spawn_numbered(rt, tasks, tally, &mut makers, number);
+        }
+        // What is sent is taken by those who come last.
+        spawn(rt, tasks, tally, &mut makers, Ticket::alone(Kind::Takes));
+        spawn(rt, tasks, tally, &mut makers, Ticket::alone(Kind::Collects));
+    }
 }
 
 // Two of the four threads below.

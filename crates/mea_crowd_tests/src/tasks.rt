@@ -1,11 +1,9 @@
 //! Tasks that any wait or any receiver may have, generic in it: so the proof of a drop or a poll takes nothing apart.
 ghost use Rattle.std.specs.Prelude.{◌≡◌, None, IsSomeAnd, IfNone};
-ghost use Rattle.futures.specs.Task.{Covers, Keeps};
-ghost use Rattle.futures.specs.Poll.{OnPending};
 
 use futures::task::{Context, Poll};
 use futures::{Future, Stream, ready};
-use mea::{Claim, Claimed, End, Never, PollFault, Waits};
+use mea::{Claim, Claimed, End, Never, Waits};
 use mea_futures::{Bell, Holding, Initialising, Kept, initialise, wait};
 use std::alloc::AllocGlobal;
 use std::process::Abort;
@@ -18,27 +16,12 @@ pub(crate) fn share<T: Drop>(rt: &impl Abort, of: &Arc<T>) -> Arc<T> {
     Arc::try_clone(of).expect(rt, "memory")
 }
 
-/// A task that waits for something, yields with it, and then drops it.
+/// A task that waits for what has to be spent, yields with it, and ends it where it drops what it kept. It is generic in the
+/// wait, so that the proof puts the task together here, and not for each kind of wait.
 #[derive(Drop)]
-pub(crate) struct Uses<F: Future, P> {
-    turn: F,
-    held: Option<P>,
-}
-
-/// A task that waits for what has to be spent, and ends it where it drops what it kept.
-pub(crate) type Spends<'a, R, F, O> = Uses<Holding<'a, R, F, O>, Kept<'a, R, O>>;
-
-/// Polls one. It is generic in the wait, so that the proof puts the task together here, and not for each kind of wait.
-pub(crate) fn poll_spends<'a, R: Wait, F: Waits<Bell, O>, O: End>(
-    task: &mut Spends<'a, R, F, O>,
-    cx: &mut Context<'_>,
-) -> Poll<()>
-    requires { IfNone task.old.held (IsSomeAnd task.old.turn.waiting.wait F.can_poll) }
-    ensures again { OnPending result (IfNone task.new.held (IsSomeAnd task.new.turn.waiting.wait F.can_poll)) }
-    ensures registered { OnPending result (Covers cx.new (λ _. ⊥)) }
-    ensures kept { Keeps cx.old cx.new }
-{
-    task.poll(cx)
+pub(crate) struct Spends<'a, R: Wait, F: Waits<Bell, O>, O: End> {
+    turn: Holding<'a, R, F, O>,
+    held: Option<Kept<'a, R, O>>,
 }
 
 /// One that was never polled.
@@ -50,16 +33,16 @@ pub(crate) fn using<'a, R: Wait + AllocGlobal + Abort, F: Waits<Bell, O>, O: End
     ensures { (result.held ≡ None) × IsSomeAnd result.turn.waiting.wait F.can_poll }
 {
     let waiting = wait(rt, rt.alloc(), turn).expect(rt, "memory");
-    Uses {
+    Spends {
         turn: waiting.holding(),
         held: None,
     }
 }
 
-impl<P: Drop, F: Future<Output = Result<P, PollFault>>> Future for Uses<F, P> {
+impl<'a, R: Wait, F: Waits<Bell, O>, O: End> Future for Spends<'a, R, F, O> {
     type Output = ();
 
-    ghost can_poll = { λ u. IfNone u.held (F.can_poll u.turn) };
+    ghost can_poll = { λ s. IfNone s.held (IsSomeAnd s.turn.waiting.wait F.can_poll) };
 
     fn poll(&mut self, cx: &mut Context<'_>) -> Poll<()> {
         if self.held.take().is_some() {
@@ -94,10 +77,26 @@ impl<O: Drop, F: Future<Output = O>> Future for Awaits<F> {
     }
 }
 
-/// A task that waits for a value, and computes it where nobody else does.
-pub(crate) type Inits<'a, R, F, V, C, T, G> = Awaits<
-    Initialising<'a, R, F, V, C, T, G, Computes<'a, T>>,
->;
+/// A task that waits for a value, and computes it where nobody else does. It is generic in the parts of the wait, so that the
+/// proof puts them together here, and not for each kind of wait.
+#[derive(Drop)]
+pub(crate) struct Inits<'a, R: Wait, F: Waits<Bell, Claimed<V, C>>, V, C: Claim<T, V, G>, T, G> {
+    awaited: Initialising<'a, R, F, V, C, T, G, Computes<'a, T>>,
+}
+
+impl<'a, R: Wait, F: Waits<Bell, Claimed<V, C>>, V: Drop, C: Claim<T, V, G>, T: Copy, G: End> Future
+    for Inits<'a, R, F, V, C, T, G> {
+    type Output = ();
+
+    ghost can_poll = { λ i. IfNone i.awaited.claim (IsSomeAnd i.awaited.turn.wait F.can_poll) };
+
+    fn poll(&mut self, cx: &mut Context<'_>) -> Poll<()> {
+        match self.awaited.poll(cx) {
+            Poll::Ready(_) => Poll::Ready(()),
+            Poll::Pending => Poll::Pending,
+        }
+    }
+}
 
 /// One that was never polled: it waits for a claim, or computes the value in two polls.
 pub(crate) fn computing<
@@ -114,37 +113,8 @@ pub(crate) fn computing<
 {
     let computes = Computes::new(value, computed);
     let awaited = initialise(rt, rt.alloc(), claiming, computes).expect(rt, "memory");
-    Awaits { awaited }
+    Inits { awaited }
 }
-
-/// Polls one. It is generic in the parts of the wait, so that the proof puts them together here, and not for each kind of wait.
-pub(crate) fn poll_inits<
-    'a,
-    R: Wait,
-    F: Waits<Bell, Claimed<V, C>>,
-    V: Drop,
-    C: Claim<T, V, G>,
-    T: Copy,
-    G: End,
->(task: &mut Inits<'a, R, F, V, C, T, G>, cx: &mut Context<'_>) -> Poll<()>
-    requires { IfNone task.old.awaited.claim (IsSomeAnd task.old.awaited.turn.wait F.can_poll) }
-    ensures again { OnPending result (IfNone task.new.awaited.claim (IsSomeAnd task.new.awaited.turn.wait F.can_poll)) }
-    ensures registered { OnPending result (Covers cx.new (λ _. ⊥)) }
-    ensures kept { Keeps cx.old cx.new }
-{
-    task.poll(cx)
-}
-
-/// Drops one, in the same way.
-pub(crate) fn drop_inits<
-    'a,
-    R: Wait,
-    F: Waits<Bell, Claimed<V, C>>,
-    V: Drop,
-    C: Claim<T, V, G>,
-    T: Copy,
-    G: End,
->(_task: Inits<'a, R, F, V, C, T, G>) {}
 
 /// A task that takes messages until no more come.
 #[derive(Drop)]
